@@ -6,23 +6,23 @@ use Rattle.std.proofs.lemmas.Bool.Decides.{nat_tests}
 use Rattle.pd_board.specs.Octets.{contains, octets_where, least_where, greatest_where, after}
 use Rattle.pd_board.specs.Board.{BoardView, past_sacked_octets}
 use Rattle.pd_board.specs.Loss.{is_lost, is_unsacked, sacked_above}
-use Rattle.pd_board.specs.Retransmit.{run_at, most_from, is_hole, next_hole, next_lost, rescue, segment_to}
+use Rattle.pd_board.specs.Retransmit.{run_at, most_from, is_hole, find_unsacked_octet_by_nextseg_rule_3, next_lost, rescue, segment_to}
 use Rattle.pd_board.proofs.Sets.{lt, ge, size_where-some, size_where-skip, size_where-none}
 use Rattle.pd_board.proofs.Find.{least-is, least-none, least-both, only_if, greatest-is, greatest-none, greatest-below, greatest-under}
 use Rattle.pd_board.proofs.Lost.{lost_below}
 use Rattle.pd_board.proofs.Shown.{within, octets_from}
 
 -- rule 1 is rule 3, where what it gives is lost
-pub next_lost-only : (high_rxt : ℕ) (s : BoardView) → next_lost high_rxt s ≡ only_if (λ x. is_lost x s) (next_hole high_rxt s)
+pub next_lost-only : (high_rxt : ℕ) (s : BoardView) → next_lost high_rxt s ≡ only_if (λ x. is_lost x s) (find_unsacked_octet_by_nextseg_rule_3 high_rxt s)
 next_lost-only high_rxt s = least-both (λ x. is_hole high_rxt x s) (λ x. is_lost x s) (lost_below s) s.una (s.top - s.una)
 
-pub lost_hole : (high_rxt x : ℕ) (s : BoardView) → next_hole high_rxt s ≡ Some x → is_lost x s ≡ true → next_lost high_rxt s ≡ Some x
+pub lost_hole : (high_rxt x : ℕ) (s : BoardView) → find_unsacked_octet_by_nextseg_rule_3 high_rxt s ≡ Some x → is_lost x s ≡ true → next_lost high_rxt s ≡ Some x
 lost_hole high_rxt x s h l = next_lost-only high_rxt s ∙ ap (only_if (λ y. is_lost y s)) h ∙ rw l refl
 
-pub kept_hole : (high_rxt x : ℕ) (s : BoardView) → next_hole high_rxt s ≡ Some x → is_lost x s ≡ false → next_lost high_rxt s ≡ None
+pub kept_hole : (high_rxt x : ℕ) (s : BoardView) → find_unsacked_octet_by_nextseg_rule_3 high_rxt s ≡ Some x → is_lost x s ≡ false → next_lost high_rxt s ≡ None
 kept_hole high_rxt x s h l = next_lost-only high_rxt s ∙ ap (only_if (λ y. is_lost y s)) h ∙ rw l refl
 
-pub no_hole : (high_rxt : ℕ) (s : BoardView) → next_hole high_rxt s ≡ None → next_lost high_rxt s ≡ None
+pub no_hole : (high_rxt : ℕ) (s : BoardView) → find_unsacked_octet_by_nextseg_rule_3 high_rxt s ≡ None → next_lost high_rxt s ≡ None
 no_hole high_rxt s h = next_lost-only high_rxt s ∙ ap (only_if (λ y. is_lost y s)) h
 
 held_off : (held from : Bool) (n : ℕ) → held ≡ true → (not held && (from && nat_lt 0 n)) ≡ false
@@ -59,7 +59,7 @@ module _ (p : ℕ → Bool) (s : BoardView) (shown : s.sacked ≡ octets_where p
       from t = let k = ge y high t in omega arith
 
   pub hole_is : (high x y : ℕ) → max s.una high ≤ x → ((k : ℕ) → max s.una high ≤ k → k < x → p k ≡ true) → p x ≡ false
-      → x ≤ y → y < s.top → p y ≡ true → next_hole high s ≡ Some x
+      → x ≤ y → y < s.top → p y ≡ true → find_unsacked_octet_by_nextseg_rule_3 high s ≡ Some x
   hole_is high x y l held free m u marked =
       let less = apart p x y m free marked in
       let some : 0 < sacked_above x s = omega (arith, octets_from p s shown (x + 1) (omega arith), size_where-some p (x + 1) y s.top (omega arith) u marked) in
@@ -68,7 +68,7 @@ module _ (p : ℕ → Bool) (s : BoardView) (shown : s.sacked ≡ octets_where p
       (hole_on (contains s.sacked x) high x (sacked_above x s) (within p s shown x (omega arith) (omega arith) ∙ free) (omega arith) some)
 
   pub hole_none : (high x : ℕ) → x ≤ s.top → ((k : ℕ) → max s.una high ≤ k → k < x → p k ≡ true)
-      → ((k : ℕ) → x ≤ k → k < s.top → p k ≡ false) → next_hole high s ≡ None
+      → ((k : ℕ) → x ≤ k → k < s.top → p k ≡ false) → find_unsacked_octet_by_nextseg_rule_3 high s ≡ None
   hole_none high x u held free =
       least-none (λ k. is_hole high k s) s.una s.top s.top (omega arith) (λ y l m.
       elim (nat_lt y x) as (λ t. nat_lt y x ≡ t → is_hole high y s ≡ false) [

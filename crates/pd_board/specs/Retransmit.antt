@@ -23,8 +23,8 @@ abbrev pub next_lost : ℕ → BoardView → Option ℕ
 next_lost high_rxt s = least_where (λ x. is_hole high_rxt x s && is_lost x s) s.una s.top
 
 -- rule 3: the least such octet
-abbrev pub next_hole : ℕ → BoardView → Option ℕ
-next_hole high_rxt s = least_where (λ x. is_hole high_rxt x s) s.una s.top
+abbrev pub find_unsacked_octet_by_nextseg_rule_3 : ℕ → BoardView → Option ℕ
+find_unsacked_octet_by_nextseg_rule_3 high_rxt s = least_where (λ x. is_hole high_rxt x s) s.una s.top
 
 -- the segment that ends with e: from una on, SMSS octets at most, and after the SACKed octets below e
 abbrev pub segment_to : BoardView → ℕ → Span

@@ -2,12 +2,13 @@
 ghost use Rattle.std.specs.Prelude.{◌≡◌, ◌+◌, ◌≤◌, ◌<◌, ◌^◌, true, false, IfOk, OnOk, OnErr, IsErr, ◌↔◌};
 ghost use Rattle.pd_board.specs.Board.{IsBoardView, opened, written, sent_to, acknowledged, with_sacked_block, has_new, with_none_sacked, past_sacked_octets, without_memory};
 ghost use Rattle.pd_board.specs.Loss.{is_lost, pipe, sacked_octets, undelivered_octets, lost_edge, sacked_above, runs_above};
-ghost use Rattle.pd_board.specs.Retransmit.{run_at, next_lost, next_hole, rescue};
+ghost use Rattle.pd_board.specs.Retransmit.{run_at, next_lost, find_unsacked_octet_by_nextseg_rule_3, rescue};
 ghost use Rattle.pd_board.specs.Runs.{AreRuns};
 
 use crate::queries::{
-    SackedAbove, after_last_sacked, after_last_unsacked, count_pipe, count_sacked_from,
-    first_sacked, first_unsacked, lost_edge,
+    SackedAbove, after_last_lost_octet_or_zero, after_last_sacked_within_or_start,
+    after_last_unsacked_within_or_start, count_pipe, count_sacked_octets_and_runs_from,
+    first_sacked_within_or_end, first_unsacked_within_or_end,
 };
 use crate::ranges::Ranges;
 use pd_seg::Span;
@@ -185,17 +186,17 @@ impl Board {
     }
 
     /// The maximal runs of SACKed octets, in ascending order.
-    pub fn runs(&self) -> &[Span]
+    pub fn sacked_spans(&self) -> &[Span]
         ensures { AreRuns self.now result.now }
     {
         self.ranges.as_slice()
     }
 
     /// Moves `next` up past octets that are SACKed.
-    pub fn skip_sacked(&mut self)
+    pub fn advance_next_past_sacked(&mut self)
         ensures { self.new ≡ past_sacked_octets self.old }
     {
-        self.next = first_unsacked(&self.ranges, self.next, self.top);
+        self.next = first_unsacked_within_or_end(&self.ranges, self.next, self.top);
     }
 
     /// The octets to send again from `x`: up to the next SACKed one, SMSS octets at most, up to `top` at most. There
@@ -208,7 +209,7 @@ impl Board {
         let most = (x + u32::from(self.smss)).min(self.top);
         Span {
             start: x,
-            end: first_sacked(&self.ranges, x, most),
+            end: first_sacked_within_or_end(&self.ranges, x, most),
         }
     }
 
@@ -221,17 +222,19 @@ impl Board {
             return false;
         }
         let first = self.una.max(x + 1);
-        count_sacked_from(&self.ranges, self.una, first, self.top).shows_loss(self.smss)
+        count_sacked_octets_and_runs_from(&self.ranges, self.una, first, self.top).shows_loss(
+            self.smss,
+        )
     }
 
     /// How many SACKed octets lie above `x`, and how many runs of them wholly above it (RFC 6675, section 4, IsLost).
-    pub fn sacked_counts_above(&self, x: u32) -> SackedAbove
+    pub fn sacked_octets_and_runs_above(&self, x: u32) -> SackedAbove
         requires low { self.now.una ≤ x }
         requires high { x ≤ self.now.top }
         ensures octets { result.octets ≡ sacked_above x self.now }
         ensures runs { result.runs ≡ runs_above x self.now }
     {
-        count_sacked_from(&self.ranges, self.una, x + 1, self.top)
+        count_sacked_octets_and_runs_from(&self.ranges, self.una, x + 1, self.top)
     }
 
     /// How many octets from `una` on and below `top` SACK blocks reported.
@@ -251,10 +254,10 @@ impl Board {
 
     /// The number after the highest octet that isn't SACKed and is lost (RFC 6675, section 4, IsLost), 0 where none is:
     /// those below it are lost too.
-    pub fn lost_edge(&self) -> u32
+    pub fn after_last_lost_octet_or_zero(&self) -> u32
         ensures { result ≡ lost_edge self.now }
     {
-        lost_edge(&self.ranges, self.una, self.top, self.smss)
+        after_last_lost_octet_or_zero(&self.ranges, self.una, self.top, self.smss)
     }
 
     /// Pipe (RFC 6675, section 4): of the octets sent that aren't SACKed, one for each that isn't lost and one for each
@@ -267,15 +270,15 @@ impl Board {
 
     /// NextSeg's rule 3 (RFC 6675, section 4): the first octet from `high_rxt` on, the number after the octet HighRxt,
     /// that isn't SACKed and lies below one that is.
-    pub fn next_hole(&self, high_rxt: u32) -> Option<u32>
-        ensures { result ≡ next_hole high_rxt self.now }
+    pub fn find_unsacked_octet_by_nextseg_rule_3(&self, high_rxt: u32) -> Option<u32>
+        ensures { result ≡ find_unsacked_octet_by_nextseg_rule_3 high_rxt self.now }
     {
         let from = self.una.max(high_rxt);
         if from >= self.top {
             return None;
         }
-        let x = first_unsacked(&self.ranges, from, self.top);
-        if first_sacked(&self.ranges, x, self.top) < self.top {
+        let x = first_unsacked_within_or_end(&self.ranges, from, self.top);
+        if first_sacked_within_or_end(&self.ranges, x, self.top) < self.top {
             Some(x)
         } else {
             None
@@ -286,7 +289,7 @@ impl Board {
     pub fn next_lost(&self, high_rxt: u32) -> Option<u32>
         ensures { result ≡ next_lost high_rxt self.now }
     {
-        let x = self.next_hole(high_rxt)?;
+        let x = self.find_unsacked_octet_by_nextseg_rule_3(high_rxt)?;
         if self.is_lost(x) { Some(x) } else { None }
     }
 
@@ -295,12 +298,12 @@ impl Board {
     pub fn rescue(&self) -> Option<Span>
         ensures { result ≡ rescue self.now }
     {
-        let end = after_last_unsacked(&self.ranges, self.una, self.top);
+        let end = after_last_unsacked_within_or_start(&self.ranges, self.una, self.top);
         if end == self.una {
             return None;
         }
         let low = self.una.max(end.saturating_sub(u32::from(self.smss)));
-        let start = after_last_sacked(&self.ranges, low, end - 1);
+        let start = after_last_sacked_within_or_start(&self.ranges, low, end - 1);
         Some(Span { start, end })
     }
 

@@ -29,7 +29,12 @@ impl SackedAbove {
 }
 
 /// Counts the runs that begin at `first` or above it, and the octets there.
-pub fn count_sacked_from(ranges: &Ranges, una: u32, first: u32, top: u32) -> SackedAbove
+pub fn count_sacked_octets_and_runs_from(
+    ranges: &Ranges,
+    una: u32,
+    first: u32,
+    top: u32,
+) -> SackedAbove
     requires ranges { AreRanges una (top + 1) ranges.now }
     requires low { una ≤ first }
     requires small { top < 2 ^ 31 }
@@ -74,7 +79,7 @@ pub fn count_pipe(ranges: &Ranges, una: u32, top: u32, smss: u16, high: u32) -> 
 }
 
 /// The number after the last octet in no range that is lost, or 0: below the ranges that are left lie gaps.
-pub fn lost_edge(ranges: &Ranges, una: u32, top: u32, smss: u16) -> u32
+pub fn after_last_lost_octet_or_zero(ranges: &Ranges, una: u32, top: u32, smss: u16) -> u32
     requires ranges { AreRanges una (top + 1) ranges.now }
     requires low { una ≤ top }
     requires small { top < 2 ^ 31 }
@@ -90,7 +95,7 @@ pub fn lost_edge(ranges: &Ranges, una: u32, top: u32, smss: u16) -> u32
         if !above.shows_loss(smss) {
             return edge;
         }
-        edge = gap_end_or_previous(place, range.start, edge);
+        edge = gap_end_or_previous_if_empty(place, range.start, edge);
         runs -= 1;
         octets -= range.end - range.start;
         place = range.end;
@@ -99,14 +104,14 @@ pub fn lost_edge(ranges: &Ranges, una: u32, top: u32, smss: u16) -> u32
 }
 
 /// The number after the octets from `from` on and below `to`, or `before` where there are none.
-fn gap_end_or_previous(from: u32, to: u32, before: u32) -> u32
+fn gap_end_or_previous_if_empty(from: u32, to: u32, before: u32) -> u32
     ensures { result ≡ cond (nat_lt from to) to before }
 {
     if from < to { to } else { before }
 }
 
 /// The first octet of the ranges from `from` on and below `to`, or `to`.
-pub fn first_sacked(ranges: &Ranges, from: u32, to: u32) -> u32
+pub fn first_sacked_within_or_end(ranges: &Ranges, from: u32, to: u32) -> u32
     requires ranges { AreRanges 0 (2 ^ 31) ranges.now }
     requires order { from ≤ to }
     ensures low { from ≤ result }
@@ -123,7 +128,7 @@ pub fn first_sacked(ranges: &Ranges, from: u32, to: u32) -> u32
 }
 
 /// The first octet from `from` on and below `to` that is in no range, or `to`.
-pub fn first_unsacked(ranges: &Ranges, from: u32, to: u32) -> u32
+pub fn first_unsacked_within_or_end(ranges: &Ranges, from: u32, to: u32) -> u32
     requires ranges { AreRanges 0 (2 ^ 31) ranges.now }
     requires order { from ≤ to }
     ensures low { from ≤ result }
@@ -143,7 +148,7 @@ pub fn first_unsacked(ranges: &Ranges, from: u32, to: u32) -> u32
 }
 
 /// The number after the last octet of the ranges from `from` on and below `to`, or `from`.
-pub fn after_last_sacked(ranges: &Ranges, from: u32, to: u32) -> u32
+pub fn after_last_sacked_within_or_start(ranges: &Ranges, from: u32, to: u32) -> u32
     requires ranges { AreRanges 0 (2 ^ 31) ranges.now }
     requires order { from ≤ to }
     ensures low { from ≤ result }
@@ -161,7 +166,7 @@ pub fn after_last_sacked(ranges: &Ranges, from: u32, to: u32) -> u32
 }
 
 /// The number after the last octet from `from` on and below `to` that is in no range, or `from`.
-pub fn after_last_unsacked(ranges: &Ranges, from: u32, to: u32) -> u32
+pub fn after_last_unsacked_within_or_start(ranges: &Ranges, from: u32, to: u32) -> u32
     requires ranges { AreRanges 0 (2 ^ 31) ranges.now }
     requires order { from ≤ to }
     ensures low { from ≤ result }

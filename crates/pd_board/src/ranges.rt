@@ -5,7 +5,7 @@ ghost use Rattle.pd_board.specs.Octets.{interval};
 ghost use Rattle.pd_board.specs.Runs.{among, Between};
 ghost use Rattle.pd_board.specs.Ranges.{in_ranges, octets_in, AreRanges, ranges_after, raised};
 
-use crate::queries::first_unsacked;
+use crate::queries::first_unsacked_within_or_end;
 use pd_seg::Span;
 use std::alloc::{AllocError, Global};
 
@@ -51,7 +51,7 @@ impl Ranges {
         ensures err { OnErr result (self.new ≡ self.old) }
     {
         // A peer names the same block in many ACKs: one that is known takes no memory.
-        if first_unsacked(self, first, end) == end {
+        if first_unsacked_within_or_end(self, first, end) == end {
             return Ok(false);
         }
         let spans = with_merged_range(&self.spans, first, end)?;

@@ -21,15 +21,15 @@ use Rattle.pd_book.specs.Acts.{texts, text_of, now, without, jobs, job, started,
 use Rattle.pd_book.specs.Legal.{MayBeRecorded}
 use Rattle.pd_book.specs.History.{History}
 use Rattle.pd_book.specs.Faults.{of_text}
-use Rattle.pd_book.specs.Refusals.{taken_room, room_refusal, line_edit_refusal}
+use Rattle.pd_book.specs.Refusals.{taken_room, history_full_fault_unless_space_for, line_edit_refusal}
 use Rattle.pd_book.specs.StoredScripts.{ScriptEntry, with_state, with_edit}
-use Rattle.pd_book.specs.Replay.{scripts_of, settle, make_abandoned_pending, IsReplay}
+use Rattle.pd_book.specs.Replay.{scripts_of, settle, make_pending_if_running_task, IsReplay}
 use Rattle.pd_book.proofs.NamedText.{set_named}
 use Rattle.pd_book.proofs.Faithful.{lookup-kept}
 use Rattle.pd_book.proofs.Replayed.{next_text}
 
 -- where there is room for so many more
-pub has_room : (m : ℕ) (s : History) → room_refusal m s ≡ None → taken_room s + m ≤ 65536
+pub has_room : (m : ℕ) (s : History) → history_full_fault_unless_space_for m s ≡ None → taken_room s + m ≤ 65536
 has_room m s h = leb-true (taken_room s + m) 65536 (go (nat_le (taken_room s + m) 65536) h)
   where
     go : (b : Bool) → cond b None (Some HistoryFull) ≡ None → b ≡ true
@@ -174,8 +174,8 @@ finish_kept opening past past' current kept kept' tasks tasks' count cap cap' h 
 
 pub abandon_kept : (opening : Settings) (past past' : List Act) (current : Settings) (kept kept' : List ScriptEntry) (tasks tasks' : List Task) (count cap cap' : ℕ) (h : Task) (j : ℕ)
     → IsReplay opening past current kept tasks count cap → job opening past j ≡ Some h
-    → past' ≡ Abandon j ∷ past → kept' ≡ make_abandoned_pending (Some h) kept → tasks' ≡ without j tasks → cap ≤ cap'
+    → past' ≡ Abandon j ∷ past → kept' ≡ make_pending_if_running_task (Some h) kept → tasks' ≡ without j tasks → cap ≤ cap'
     → IsReplay opening past' current kept' tasks' count cap'
 abandon_kept opening past past' current kept kept' tasks tasks' count cap cap' h j re found p k hs big =
     ended_kept opening past past' current kept kept' tasks tasks' count cap cap' h j (Abandon j) re found (h, found) refl refl refl p
-    (k ∙ (ap (make_abandoned_pending (Some h)) re.scripts ∙ ap (λ (o : Option Task). make_abandoned_pending o (scripts_of opening past)) (sym found))) hs big
+    (k ∙ (ap (make_pending_if_running_task (Some h)) re.scripts ∙ ap (λ (o : Option Task). make_pending_if_running_task o (scripts_of opening past)) (sym found))) hs big

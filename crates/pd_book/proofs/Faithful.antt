@@ -18,7 +18,7 @@ use Rattle.pd_book.specs.declared.stored_script.ScriptState.TheVariants.{Pending
 use Rattle.pd_track.specs.declared.task.Task.{Task}
 use Rattle.pd_book.specs.Acts.{NamedText, edited_at, texts, has_script, job}
 use Rattle.pd_book.specs.StoredScripts.{ScriptEntry, with_state, with_edit, without_name, all_pending, in_state, is_running_job}
-use Rattle.pd_book.specs.Replay.{scripts_of, settle, make_abandoned_pending}
+use Rattle.pd_book.specs.Replay.{scripts_of, settle, make_pending_if_running_task}
 use Rattle.pd_book.proofs.Searches.{none_from_test}
 
 abbrev pub named_text : ScriptEntry → NamedText
@@ -44,9 +44,9 @@ texts-settle Stale h es = refl
 texts-settle Taken None es = refl
 texts-settle Taken (Some h) es = texts-state _ _ es
 
-texts-make_abandoned_pending : (h : Option Task) (es : List ScriptEntry) → texts_of (make_abandoned_pending h es) ≡ texts_of es
-texts-make_abandoned_pending None es = refl
-texts-make_abandoned_pending (Some h) es = go (is_running_job (option_map (λ (s : StoredScript). s.state) (lookup (bytes_eq h.name) es)) h.number)
+texts-make_pending_if_running_task : (h : Option Task) (es : List ScriptEntry) → texts_of (make_pending_if_running_task h es) ≡ texts_of es
+texts-make_pending_if_running_task None es = refl
+texts-make_pending_if_running_task (Some h) es = go (is_running_job (option_map (λ (s : StoredScript). s.state) (lookup (bytes_eq h.name) es)) h.number)
   where
     go : (b : Bool) → texts_of (cond b (with_state (bytes_eq h.name) Pending es) es) ≡ texts_of es
     go true = texts-state _ _ es
@@ -80,7 +80,7 @@ texts-scripts opening (Remove n ∷ older) = texts-without n (scripts_of opening
 texts-scripts opening (Set k v ∷ older) = texts-pending (scripts_of opening older) ∙ texts-scripts opening older
 texts-scripts opening (Start j n ∷ older) = texts-state (bytes_eq n) (Running j) (scripts_of opening older) ∙ texts-scripts opening older
 texts-scripts opening (Finish j r ∷ older) = texts-settle r (job opening older j) (scripts_of opening older) ∙ texts-scripts opening older
-texts-scripts opening (Abandon j ∷ older) = texts-make_abandoned_pending (job opening older j) (scripts_of opening older) ∙ texts-scripts opening older
+texts-scripts opening (Abandon j ∷ older) = texts-make_pending_if_running_task (job opening older j) (scripts_of opening older) ∙ texts-scripts opening older
 
 -- a name is looked up in either
 pub lookup-texts : (test : List ℕ → Bool) (es : List ScriptEntry) → lookup test (texts_of es) ≡ option_map (λ (s : StoredScript). s.text) (lookup test es)

@@ -22,7 +22,7 @@ use Rattle.pd_book.specs.Acts.{NamedText, texts, present_text, text_of, has_scri
 use Rattle.pd_book.specs.Legal.{MayBeRecorded, HasRoom, Legal}
 use Rattle.pd_book.specs.History.{History}
 use Rattle.pd_book.specs.Faults.{of_text}
-use Rattle.pd_book.specs.Refusals.{taken_room, room_refusal, or_else, name_refusal, line_edit_refusal, missing_refusal, value_refusal, add_refusal, edit_refusal, remove_refusal, set_refusal, start_refusal, next_job}
+use Rattle.pd_book.specs.Refusals.{taken_room, history_full_fault_unless_space_for, or_else, refusal_if_name_bad_taken_or_too_many, line_edit_refusal, missing_refusal, refusal_if_key_unknown_or_value_bad, add_refusal, edit_refusal, remove_refusal, set_refusal, start_refusal, next_job}
 use Rattle.pd_book.specs.Accepted.{IsLegalWith, AddsAreLegal, EditsAreLegal, RemovesAreLegal, SetsAreLegal, LegalAddsAreAccepted, LegalEditsAreAccepted, LegalRemovesAreAccepted, LegalSetsAreAccepted, StartsAreLegal, FinishesAreLegal, AbandonsAreLegal}
 use Rattle.pd_book.specs.Turns.{turned, after_turn, IsAtRest, StartsAreOutstanding, TurnsAreLegal}
 use Rattle.pd_book.proofs.Searches.{find_last}
@@ -32,7 +32,7 @@ use Rattle.pd_book.proofs.Replayed.{next_text}
 
 -- ---- acts that start and end no job
 
-one_more : (history : History) (act : Act) → jobs history.opening (act ∷ history.past) ≡ jobs history.opening history.past → room_refusal 1 history ≡ None → HasRoom history.opening (act ∷ history.past)
+one_more : (history : History) (act : Act) → jobs history.opening (act ∷ history.past) ≡ jobs history.opening history.past → history_full_fault_unless_space_for 1 history ≡ None → HasRoom history.opening (act ∷ history.past)
 one_more history act same free = omega (arith, has_room 1 history free, ap length same)
 
 pub both_none : (first second : Option BookFault) → or_else first second ≡ None → (first ≡ None) × (second ≡ None)
@@ -41,11 +41,11 @@ both_none (Some fault) second h = absurd cc
 
 pub add_legal : (history : History) → Legal history.opening history.past → (name : List ℕ) (text : List (List ℕ)) → IsText text → add_refusal history name ≡ None → IsLegalWith history (Add name text)
 add_legal history l name text fits h =
-    let both = both_none (name_refusal history.past name) (room_refusal 1 history) h in
+    let both = both_none (refusal_if_name_bad_taken_or_too_many history.past name) (history_full_fault_unless_space_for 1 history) h in
     go (is_valid_name name) refl (has_script history.past name) refl (nat_le 1024 (length (texts history.past))) refl both.0 both.1
   where
     go : (a : Bool) → is_valid_name name ≡ a → (b : Bool) → has_script history.past name ≡ b → (c : Bool) → nat_le 1024 (length (texts history.past)) ≡ c
-        → cond (not a) (Some BadName) (cond b (Some NameTaken) (cond c (Some TooManyScripts) None)) ≡ None → room_refusal 1 history ≡ None → Legal history.opening (Add name text ∷ history.past)
+        → cond (not a) (Some BadName) (cond b (Some NameTaken) (cond c (Some TooManyScripts) None)) ≡ None → history_full_fault_unless_space_for 1 history ≡ None → Legal history.opening (Add name text ∷ history.past)
     go true e false f false g h k = ((e, f, leb-false 1024 (length (texts history.past)) g, fits), l, one_more history (Add name text) refl k)
     go false e b f c g h k = absurd cc
     go true e true f c g h k = absurd cc
@@ -53,10 +53,10 @@ add_legal history l name text fits h =
 
 edit_legal : (history : History) → Legal history.opening history.past → (name : List ℕ) (edit : LineEdit) → AreLines edit.insert → edit_refusal history name edit ≡ None → IsLegalWith history (Edit name edit)
 edit_legal history l name edit lines h =
-    let both = both_none (line_edit_refusal (present_text history.past name) edit) (room_refusal 1 history) h in
+    let both = both_none (line_edit_refusal (present_text history.past name) edit) (history_full_fault_unless_space_for 1 history) h in
     go (present_text history.past name) refl both.0 both.1
   where
-    go : (o : Option (List (List ℕ))) → present_text history.past name ≡ o → line_edit_refusal o edit ≡ None → room_refusal 1 history ≡ None → Legal history.opening (Edit name edit ∷ history.past)
+    go : (o : Option (List (List ℕ))) → present_text history.past name ≡ o → line_edit_refusal o edit ≡ None → history_full_fault_unless_space_for 1 history ≡ None → Legal history.opening (Edit name edit ∷ history.past)
     go None e k f = absurd cc
     go (Some text) e k f =
         let here : has_script history.past name ≡ true = rw e refl in
@@ -66,31 +66,31 @@ edit_legal history l name edit lines h =
 
 remove_legal : (history : History) → Legal history.opening history.past → (name : List ℕ) → remove_refusal history name ≡ None → IsLegalWith history (Remove name)
 remove_legal history l name h =
-    let both = both_none (missing_refusal history.past name) (room_refusal 1 history) h in
+    let both = both_none (missing_refusal history.past name) (history_full_fault_unless_space_for 1 history) h in
     go (has_script history.past name) refl both.0 both.1
   where
-    go : (b : Bool) → has_script history.past name ≡ b → cond b None (Some NoSuchScript) ≡ None → room_refusal 1 history ≡ None → Legal history.opening (Remove name ∷ history.past)
+    go : (b : Bool) → has_script history.past name ≡ b → cond b None (Some NoSuchScript) ≡ None → history_full_fault_unless_space_for 1 history ≡ None → Legal history.opening (Remove name ∷ history.past)
     go true e h k = (e, l, one_more history (Remove name) refl k)
     go false e h k = absurd cc
 
 set_legal : (history : History) → Legal history.opening history.past → (name : List ℕ) (key : Key) (value : Value) → key_named name ≡ Some key → set_refusal history name value ≡ None → IsLegalWith history (Set key value)
 set_legal history l name key value named h =
-    let both = both_none (value_refusal (now history.opening history.past) (key_named name) value) (room_refusal 1 history) h in
-    go (replaced (now history.opening history.past) key value) refl (ap (λ (o : Option Key). value_refusal (now history.opening history.past) o value) (sym named) ∙ both.0) both.1
+    let both = both_none (refusal_if_key_unknown_or_value_bad (now history.opening history.past) (key_named name) value) (history_full_fault_unless_space_for 1 history) h in
+    go (replaced (now history.opening history.past) key value) refl (ap (λ (o : Option Key). refusal_if_key_unknown_or_value_bad (now history.opening history.past) o value) (sym named) ∙ both.0) both.1
   where
-    go : (o : Option Settings) → replaced (now history.opening history.past) key value ≡ o → cond (is_none o) (Some BadValue) None ≡ None → room_refusal 1 history ≡ None → Legal history.opening (Set key value ∷ history.past)
+    go : (o : Option Settings) → replaced (now history.opening history.past) key value ≡ o → cond (is_none o) (Some BadValue) None ≡ None → history_full_fault_unless_space_for 1 history ≡ None → Legal history.opening (Set key value ∷ history.past)
     go None e k f = absurd cc
     go (Some settings) e k f = (rw e refl, l, one_more history (Set key value) refl f)
 
 -- ---- legal acts are those of calls that aren't refused
 
-room_left : (more : ℕ) (history : History) → taken_room history + more ≤ 65536 → room_refusal more history ≡ None
+room_left : (more : ℕ) (history : History) → taken_room history + more ≤ 65536 → history_full_fault_unless_space_for more history ≡ None
 room_left more history h = ap (λ (b : Bool). cond b None (Some HistoryFull)) (fits (taken_room history + more) h)
   where
     fits : (n : ℕ) → n ≤ 65536 → nat_le n 65536 ≡ true
     fits n le = grind (arith, nat_tests, le)
 
-one_left : (history : History) (act : Act) → jobs history.opening (act ∷ history.past) ≡ jobs history.opening history.past → HasRoom history.opening (act ∷ history.past) → room_refusal 1 history ≡ None
+one_left : (history : History) (act : Act) → jobs history.opening (act ∷ history.past) ≡ jobs history.opening history.past → HasRoom history.opening (act ∷ history.past) → history_full_fault_unless_space_for 1 history ≡ None
 one_left history act same room = room_left 1 history (omega (arith, room, ap length same))
 
 none_of_both : (first second : Option BookFault) → first ≡ None → second ≡ None → or_else first second ≡ None
@@ -105,7 +105,7 @@ adds_exactly history l name text = (allowed, λ h. add_legal history l name text
     allowed : IsLegalWith history (Add name text) → IsText text × (add_refusal history name ≡ None)
     allowed (may, older, room) =
         let few : nat_le 1024 (length (texts history.past)) ≡ false = not_over (length (texts history.past)) 1024 may.2 in
-        (may.3, none_of_both (name_refusal history.past name) (room_refusal 1 history) (rw (may.0, may.1, few) refl) (one_left history (Add name text) refl room))
+        (may.3, none_of_both (refusal_if_name_bad_taken_or_too_many history.past name) (history_full_fault_unless_space_for 1 history) (rw (may.0, may.1, few) refl) (one_left history (Add name text) refl room))
 
 edits_exactly : (history : History) → Legal history.opening history.past → (name : List ℕ) (edit : LineEdit) → IsLegalWith history (Edit name edit) ↔ (AreLines edit.insert × (edit_refusal history name edit ≡ None))
 edits_exactly history l name edit = (allowed, λ h. edit_legal history l name edit h.0 h.1)
@@ -116,13 +116,13 @@ edits_exactly history l name edit = (allowed, λ h. edit_legal history l name ed
 
     allowed : IsLegalWith history (Edit name edit) → AreLines edit.insert × (edit_refusal history name edit ≡ None)
     allowed (may, older, room) =
-        (may.2, none_of_both (line_edit_refusal (present_text history.past name) edit) (room_refusal 1 history) (refused (present_text history.past name) may.0 may.1) (one_left history (Edit name edit) refl room))
+        (may.2, none_of_both (line_edit_refusal (present_text history.past name) edit) (history_full_fault_unless_space_for 1 history) (refused (present_text history.past name) may.0 may.1) (one_left history (Edit name edit) refl room))
 
 removes_exactly : (history : History) → Legal history.opening history.past → (name : List ℕ) → IsLegalWith history (Remove name) ↔ (remove_refusal history name ≡ None)
 removes_exactly history l name = (allowed, remove_legal history l name)
   where
     allowed : IsLegalWith history (Remove name) → remove_refusal history name ≡ None
-    allowed (may, older, room) = none_of_both (missing_refusal history.past name) (room_refusal 1 history) (rw may refl) (one_left history (Remove name) refl room)
+    allowed (may, older, room) = none_of_both (missing_refusal history.past name) (history_full_fault_unless_space_for 1 history) (rw may refl) (one_left history (Remove name) refl room)
 
 sets_exactly : (history : History) → Legal history.opening history.past → (name : List ℕ) (key : Key) (value : Value) → key_named name ≡ Some key → IsLegalWith history (Set key value) ↔ (set_refusal history name value ≡ None)
 sets_exactly history l name key value named = (allowed, set_legal history l name key value named)
@@ -133,8 +133,8 @@ sets_exactly history l name key value named = (allowed, set_legal history l name
 
     allowed : IsLegalWith history (Set key value) → set_refusal history name value ≡ None
     allowed (may, older, room) =
-        none_of_both (value_refusal (now history.opening history.past) (key_named name) value) (room_refusal 1 history)
-        (ap (λ (o : Option Key). value_refusal (now history.opening history.past) o value) named ∙ known (replaced (now history.opening history.past) key value) may) (one_left history (Set key value) refl room)
+        none_of_both (refusal_if_key_unknown_or_value_bad (now history.opening history.past) (key_named name) value) (history_full_fault_unless_space_for 1 history)
+        (ap (λ (o : Option Key). refusal_if_key_unknown_or_value_bad (now history.opening history.past) o value) named ∙ known (replaced (now history.opening history.past) key value) may) (one_left history (Set key value) refl room)
 
 pub adds_legal : (history : History) → Legal history.opening history.past → AddsAreLegal history
 adds_legal history l name text fits h = add_legal history l name text fits h
@@ -204,11 +204,11 @@ one_job history script q e =
     let text : text_of history.past script.0 ≡ script.1 = next_text history.opening history.past script.0 script.1 q.legal e in
     rw (q.none, text) refl
 
-two_more : (history : History) → room_refusal 2 history ≡ None → taken_room history + 2 ≤ 65536
+two_more : (history : History) → history_full_fault_unless_space_for 2 history ≡ None → taken_room history + 2 ≤ 65536
 two_more history free = has_room 2 history free
 
-start_room : (history : History) (script : NamedText) → next history.past ≡ Some script → start_refusal history ≡ None → room_refusal 2 history ≡ None
-start_room history script e h = let same : start_refusal history ≡ room_refusal 2 history = rw e refl in sym same ∙ h
+start_room : (history : History) (script : NamedText) → next history.past ≡ Some script → start_refusal history ≡ None → history_full_fault_unless_space_for 2 history ≡ None
+start_room history script e h = let same : start_refusal history ≡ history_full_fault_unless_space_for 2 history = rw e refl in sym same ∙ h
 
 turn_of : (history : History) (script : NamedText) → IsAtRest history → next history.past ≡ Some script → start_refusal history ≡ None → IsAtRest (after_turn history (task_for history script))
 turn_of history script q e h =
@@ -232,7 +232,7 @@ turns_legal history q task h k = job_from (λ (t : Task). IsAtRest (after_turn h
 
 -- ---- legal starts and ends of jobs
 
-start_legal : (history : History) → Legal history.opening history.past → (script : NamedText) → next history.past ≡ Some script → room_refusal 2 history ≡ None → IsLegalWith history (Start (started history.past + 1) script.0)
+start_legal : (history : History) → Legal history.opening history.past → (script : NamedText) → next history.past ≡ Some script → history_full_fault_unless_space_for 2 history ≡ None → IsLegalWith history (Start (started history.past + 1) script.0)
 start_legal history l script e free =
     let text : text_of history.past script.0 ≡ script.1 = next_text history.opening history.past script.0 script.1 l e in
     let room = two_more history free in
@@ -244,7 +244,7 @@ starts_legal history l number name = (allowed, back)
     allowed : IsLegalWith history (Start number name) → (task : Task) × (next_job history ≡ Some task) × (start_refusal history ≡ None) × (number ≡ task.number) × (name ≡ task.name)
     allowed (may, older, room) =
         let some : is_some (next history.past) ≡ true = rw may.1 refl in
-        let free : room_refusal 2 history ≡ None = room_left 2 history (omega (arith, room, length-append (jobs history.opening history.past) (task_at history number name ∷ []))) in
+        let free : history_full_fault_unless_space_for 2 history ≡ None = room_left 2 history (omega (arith, room, length-append (jobs history.opening history.past) (task_at history number name ∷ []))) in
         (task_for history (name, text_of history.past name), ap (option_map (task_for history)) may.1, rw some free, may.0, refl)
 
     back : (task : Task) × (next_job history ≡ Some task) × (start_refusal history ≡ None) × (number ≡ task.number) × (name ≡ task.name) → IsLegalWith history (Start number name)

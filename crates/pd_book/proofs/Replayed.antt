@@ -18,7 +18,7 @@ use Rattle.pd_track.specs.declared.task.Task.{Task}
 use Rattle.pd_book.specs.Acts.{NamedText, texts, has_script, text_of, since, answered, busy, ended, is_unchanged_since_start, job, next, waits, ruling}
 use Rattle.pd_book.specs.Legal.{Legal}
 use Rattle.pd_book.specs.StoredScripts.{ScriptEntry, is_pending, pending_state, is_running_job, with_state}
-use Rattle.pd_book.specs.Replay.{scripts_of, settle, make_abandoned_pending}
+use Rattle.pd_book.specs.Replay.{scripts_of, settle, make_pending_if_running_task}
 use Rattle.pd_book.proofs.Searches.{all_map, all_push, all_imp, all_filter, find_is, find_all, apart}
 use Rattle.pd_book.proofs.Faithful.{named_text, texts_of, texts-scripts, has_script-kept}
 use Rattle.pd_book.proofs.Stretches.{up}
@@ -127,7 +127,7 @@ standing opening (Abandon k ∷ past) l = rw l.0.1 (go (is_unchanged_since_start
     h : Task
     h = l.0.0
 
-    go : (b : Bool) → is_unchanged_since_start past h ≡ b → AllByRecursion (Stands opening past) (scripts_of opening past) → AllByRecursion (Stands opening (Abandon k ∷ past)) (make_abandoned_pending (Some h) (scripts_of opening past))
+    go : (b : Bool) → is_unchanged_since_start past h ≡ b → AllByRecursion (Stands opening past) (scripts_of opening past) → AllByRecursion (Stands opening (Abandon k ∷ past)) (make_pending_if_running_task (Some h) (scripts_of opening past))
     go b q a = rw is (by b q a)
       where
         num : h.number ≡ k

@@ -23,9 +23,9 @@ settle Taken None entries = entries
 settle Taken (Some task) entries = with_state (bytes_eq task.name) (Answered (verdict_of task.text task.settings)) entries
 
 -- the scripts after an abandonment
-abbrev pub make_abandoned_pending : Option Task → List ScriptEntry → List ScriptEntry
-make_abandoned_pending None entries = entries
-make_abandoned_pending (Some task) entries =
+abbrev pub make_pending_if_running_task : Option Task → List ScriptEntry → List ScriptEntry
+make_pending_if_running_task None entries = entries
+make_pending_if_running_task (Some task) entries =
     if is_running_job (option_map (λ (s : StoredScript). s.state) (lookup (bytes_eq task.name) entries)) task.number then with_state (bytes_eq task.name) Pending entries else entries
 
 -- the scripts as the book keeps them after these acts
@@ -37,7 +37,7 @@ scripts_of opening (Remove n ∷ older) = without_name n (scripts_of opening old
 scripts_of opening (Set k v ∷ older) = all_pending (scripts_of opening older)
 scripts_of opening (Start j n ∷ older) = with_state (bytes_eq n) (Running j) (scripts_of opening older)
 scripts_of opening (Finish j r ∷ older) = settle r (job opening older j) (scripts_of opening older)
-scripts_of opening (Abandon j ∷ older) = make_abandoned_pending (job opening older j) (scripts_of opening older)
+scripts_of opening (Abandon j ∷ older) = make_pending_if_running_task (job opening older j) (scripts_of opening older)
 
 -- a job to hand out, its task to keep and its act to record are those of the first script that waits
 pub record IsReady (opening : Settings) (past : List Act) (handed kept : Task) (act : Act) : Type 0 where

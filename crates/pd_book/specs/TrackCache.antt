@@ -43,16 +43,16 @@ abbrev pub source_of : Task → TrackView
 source_of done = record { text = done.text; settings = done.settings }
 
 -- a track shares more first lines with a text than the one that is kept
-abbrev pub is_better_than_cached : List (List ℕ) → TrackView → Option TrackView → Bool
-is_better_than_cached text track None = true
-is_better_than_cached text track (Some kept) = nat_lt (common_prefix kept.text text) (common_prefix track.text text)
+abbrev pub shares_more_lines_than_cached : List (List ℕ) → TrackView → Option TrackView → Bool
+shares_more_lines_than_cached text track None = true
+shares_more_lines_than_cached text track (Some kept) = nat_lt (common_prefix kept.text text) (common_prefix track.text text)
 
 -- the track of a result that is taken is kept; that of a stale one where its name stands and no kept track of that name
 -- shares as many first lines with the present text
 abbrev pub should_cache : Ruling → Option (List (List ℕ)) → Task → TrackCacheView → Bool
 should_cache Taken present_text done cache = true
 should_cache Stale None done cache = false
-should_cache Stale (Some text) done cache = is_better_than_cached text (source_of done) (track_of done.name cache)
+should_cache Stale (Some text) done cache = shares_more_lines_than_cached text (source_of done) (track_of done.name cache)
 
 -- the tracks after a finish by its ruling: that of the result is put first where it is kept
 abbrev pub cache_after_finish : Ruling → Option (List (List ℕ)) → Task → TrackCacheView → TrackCacheView

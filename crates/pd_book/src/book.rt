@@ -11,7 +11,7 @@ ghost use Rattle.pd_book.specs.Headline.{CurrentWhenAnswered, RowsAreScripts, Ve
 ghost use Rattle.pd_book.specs.History.{after_act};
 ghost use Rattle.pd_book.specs.Replies.{GivesAdd, GivesEdit, GivesRemove, GivesSet};
 ghost use Rattle.pd_book.specs.TrackCache.{without_track};
-ghost use Rattle.pd_book.specs.Refusals.{room_refusal, add_refusal, line_edit_refusal, edit_refusal, remove_refusal, value_refusal, set_refusal, fault_of};
+ghost use Rattle.pd_book.specs.Refusals.{history_full_fault_unless_space_for, add_refusal, line_edit_refusal, edit_refusal, remove_refusal, refusal_if_key_unknown_or_value_bad, set_refusal, fault_of};
 
 mod jobs;
 
@@ -21,7 +21,7 @@ use crate::records::{Records, record_act};
 use crate::report::Report;
 use crate::shared_edit::SharedEdit;
 use crate::track_cache::TrackCache;
-use pd_run::law_verdicts_are_grammatical;
+use pd_run::law_verdicts_are_of_grammar_scripts;
 use pd_settings::{Key, Settings, Value};
 use pd_text::{LineEdit, Lines, Name, Text, TextFault};
 use std::alloc::{AllocError, Global};
@@ -95,9 +95,9 @@ impl Book {
     }
 
     /// Why there is no room for `more` acts and jobs.
-    fn room_refusal(&self, more: usize) -> Option<BookFault>
+    fn history_full_fault_unless_space_for(&self, more: usize) -> Option<BookFault>
         requires { more ≤ 2 }
-        ensures { result ≡ room_refusal more self.now.history }
+        ensures { result ≡ history_full_fault_unless_space_for more self.now.history }
     {
         if self.records.acts.len() + self.records.tasks.len() + more <= MAX_ACTS {
             None
@@ -133,8 +133,8 @@ impl Book {
         ensures tracks { self.new.tracks ≡ self.old.tracks }
     {
         match Text::new(*self.records.acts.allocator(), lines) {
-            Ok(text) => self.check_and_insert_script(name, Some(text)),
-            Err(_) => self.check_and_insert_script(name, None),
+            Ok(text) => self.insert_script_unless_refused_or_no_text(name, Some(text)),
+            Err(_) => self.insert_script_unless_refused_or_no_text(name, None),
         }
     }
 
@@ -150,11 +150,15 @@ impl Book {
         ensures same { OnErr result (self.new ≡ self.old) }
         ensures tracks { self.new.tracks ≡ self.old.tracks }
     {
-        self.check_and_insert_script(name, Some(text))
+        self.insert_script_unless_refused_or_no_text(name, Some(text))
     }
 
     /// Adds a script of this text; `None` if out of memory.
-    fn check_and_insert_script(&mut self, name: Name, text: Option<Text>) -> Result<(), BookFault>
+    fn insert_script_unless_refused_or_no_text(
+        &mut self,
+        name: Name,
+        text: Option<Text>,
+    ) -> Result<(), BookFault>
         ensures ok { OnOk result (IsSomeAnd text (λ text. self.new.history ≡ after_act self.old.history (Act.Add name text))) }
         ensures allowed { OnOk result (add_refusal self.old.history name ≡ None) }
         ensures err { IfErr result (λ e. e ≡ fault_of (add_refusal self.old.history name)) }
@@ -174,9 +178,9 @@ impl Book {
     fn add_refusal(&self, name: &Name) -> Option<BookFault>
         ensures { result ≡ add_refusal self.now.history name.now }
     {
-        match self.name_refusal(name) {
+        match self.refusal_if_name_bad_taken_or_too_many(name) {
             Some(fault) => Some(fault),
-            None => self.room_refusal(1),
+            None => self.history_full_fault_unless_space_for(1),
         }
     }
 
@@ -210,9 +214,9 @@ impl Book {
         ensures tracks { self.new.tracks ≡ self.old.tracks }
     {
         let (key, settings) = self.key_and_changed_settings(key, value)?;
-        match self.room_refusal(1) {
+        match self.history_full_fault_unless_space_for(1) {
             Some(fault) => Err(fault),
-            None => Ok(self.store_and_record_setting(key, value, settings)?),
+            None => Ok(self.record_setting_and_make_all_pending(key, value, settings)?),
         }
     }
 
@@ -224,26 +228,26 @@ impl Book {
     ) -> Result<(Key, Settings), BookFault>
         ensures key { IfOk result (λ new. key_named key.now ≡ Some new.0) }
         ensures settings { IfOk result (λ new. replaced (now self.now.history.opening self.now.history.past) new.0 value ≡ Some new.1) }
-        ensures err { IfErr result (λ e. value_refusal (now self.now.history.opening self.now.history.past) (key_named key.now) value ≡ Some e) }
+        ensures err { IfErr result (λ e. refusal_if_key_unknown_or_value_bad (now self.now.history.opening self.now.history.past) (key_named key.now) value ≡ Some e) }
     {
         let Some(key) = Key::from_name(key) else {
             return Err(BookFault::UnknownKey);
         };
-        match self.settings.with_value_at(key, value) {
+        match self.settings.with_allowed_value_or_none(key, value) {
             Some(settings) => Ok((key, settings)),
             None => Err(BookFault::BadValue),
         }
     }
 
     /// Keeps a setting for which there is room.
-    fn store_and_record_setting(
+    fn record_setting_and_make_all_pending(
         &mut self,
         key: Key,
         value: Value,
         settings: Settings,
     ) -> Result<(), AllocError>
         requires settings { replaced (now self.old.history.opening self.old.history.past) key value ≡ Some settings }
-        requires room { room_refusal 1 self.old.history ≡ None }
+        requires room { history_full_fault_unless_space_for 1 self.old.history ≡ None }
         ensures ok { OnOk result (self.new.history ≡ after_act self.old.history (Act.Set key value)) }
         ensures same { OnErr result (self.new ≡ self.old) }
         ensures tracks { self.new.tracks ≡ self.old.tracks }
@@ -256,7 +260,7 @@ impl Book {
     }
 
     /// The text of a script after an edit; `None` if out of memory.
-    pub(crate) fn edited_lines(
+    pub(crate) fn edited_lines_or_none_if_out_of_memory(
         &self,
         name: &Name,
         edit: &LineEdit,
@@ -282,10 +286,10 @@ impl Book {
     ///
     /// # Errors
     /// `AllocError` only where a count of owners is full.
-    pub fn interned_name(&self, name: &Name) -> Result<Name, AllocError>
+    pub fn share_stored_name_or_given(&self, name: &Name) -> Result<Name, AllocError>
         ensures { IfOk result (λ kept. kept ≡ name.now) }
     {
-        self.records.scripts.interned_name(name)
+        self.records.scripts.share_stored_name_or_given(name)
     }
 
     /// The present text of a script.
@@ -307,7 +311,7 @@ impl Book {
         ensures same { OnErr result (self.new ≡ self.old) }
         ensures tracks { self.new.tracks ≡ self.old.tracks }
     {
-        let lines = self.text_after_edit(name, edit)?;
+        let lines = self.edited_lines_unless_history_full(name, edit)?;
         let edit = SharedEdit::from_copied_edit(*self.records.acts.allocator(), edit)?;
         self.replace_and_record_text(name, edit, lines)
     }
@@ -324,20 +328,24 @@ impl Book {
         ensures same { OnErr result (self.new ≡ self.old) }
         ensures tracks { self.new.tracks ≡ self.old.tracks }
     {
-        let lines = self.text_after_edit(name, edit.edit())?;
+        let lines = self.edited_lines_unless_history_full(name, edit.edit())?;
         self.replace_and_record_text(name, edit, lines)
     }
 
     /// The text of a script after an edit for which there is room.
-    fn text_after_edit(&self, name: &Name, edit: &LineEdit) -> Result<Lines, BookFault>
+    fn edited_lines_unless_history_full(
+        &self,
+        name: &Name,
+        edit: &LineEdit,
+    ) -> Result<Lines, BookFault>
         ensures ok { IfOk result (λ lines. lines ≡ edited (text_of self.now.history.past name.now) edit.now) }
         ensures allowed { OnOk result (line_edit_refusal (present_text self.now.history.past name.now) edit.now ≡ None) }
-        ensures room { OnOk result (room_refusal 1 self.now.history ≡ None) }
+        ensures room { OnOk result (history_full_fault_unless_space_for 1 self.now.history ≡ None) }
         ensures err { IfErr result (λ e. e ≡ fault_of (edit_refusal self.now.history name.now edit.now)) }
         ensures lines { AreLines edit.now.insert }
     {
-        let edited = self.edited_lines(name, edit)?;
-        if let Some(fault) = self.room_refusal(1) {
+        let edited = self.edited_lines_or_none_if_out_of_memory(name, edit)?;
+        if let Some(fault) = self.history_full_fault_unless_space_for(1) {
             return Err(fault);
         }
         match edited {
@@ -354,7 +362,7 @@ impl Book {
         lines: Lines,
     ) -> Result<(), BookFault>
         requires allowed { line_edit_refusal (present_text self.old.history.past name.now) edit ≡ None }
-        requires room { room_refusal 1 self.old.history ≡ None }
+        requires room { history_full_fault_unless_space_for 1 self.old.history ≡ None }
         requires text { lines ≡ edited (text_of self.old.history.past name.now) edit }
         requires inserted { AreLines edit.insert }
         ensures ok { OnOk result (self.new.history ≡ after_act self.old.history (Act.Edit name.now edit)) }
@@ -364,8 +372,10 @@ impl Book {
     {
         self.records.acts.reserve(self.records.tasks.len() + 1)?;
         let text = Text::new(*self.records.acts.allocator(), lines)?;
-        let act = Act::Edit(self.interned_name(name)?, edit);
-        self.records.scripts.replace_text(name, text);
+        let act = Act::Edit(self.share_stored_name_or_given(name)?, edit);
+        self.records
+            .scripts
+            .replace_text_and_make_pending(name, text);
         record_act(&mut self.records.acts, act);
         Ok(())
     }
@@ -385,11 +395,11 @@ impl Book {
         if !self.has_script(name) {
             return Err(BookFault::NoSuchScript);
         }
-        if let Some(fault) = self.room_refusal(1) {
+        if let Some(fault) = self.history_full_fault_unless_space_for(1) {
             return Err(fault);
         }
         self.records.acts.reserve(self.records.tasks.len() + 1)?;
-        let act = Act::Remove(self.interned_name(name)?);
+        let act = Act::Remove(self.share_stored_name_or_given(name)?);
         self.records.scripts.remove(name);
         self.tracks.remove(name);
         record_act(&mut self.records.acts, act);
@@ -420,7 +430,7 @@ impl Book {
         ensures parts { IfOk result (λ report. RowsAreOfWhole self.now.history.opening self.now.history.past report) }
     {
         self.law_invariant();
-        law_verdicts_are_grammatical();
+        law_verdicts_are_of_grammar_scripts();
         self.report()
     }
 

@@ -44,20 +44,20 @@ pub enum FinishFault {
 
 impl BookFault {
     /// Its number and its name, as they are printed.
-    pub fn text(self) -> &'static str
+    pub fn number_and_name(self) -> &'static str
         ensures { result.now ≡ fault_text self }
     {
         match self {
-            BookFault::BadRange => TextFault::BadRange.text(),
-            BookFault::TooLarge => TextFault::TooLarge.text(),
-            BookFault::UnknownKey => SettingsFault::UnknownKey.text(),
-            BookFault::BadValue => SettingsFault::BadValue.text(),
+            BookFault::BadRange => TextFault::BadRange.number_and_name(),
+            BookFault::TooLarge => TextFault::TooLarge.number_and_name(),
+            BookFault::UnknownKey => SettingsFault::UnknownKey.number_and_name(),
+            BookFault::BadValue => SettingsFault::BadValue.number_and_name(),
             BookFault::BadName => "5 BadName",
             BookFault::NameTaken => "6 NameTaken",
             BookFault::NoSuchScript => "7 NoSuchScript",
             BookFault::TooManyScripts => "8 TooManyScripts",
             BookFault::HistoryFull => "11 HistoryFull",
-            BookFault::OutOfMemory => TextFault::OutOfMemory.text(),
+            BookFault::OutOfMemory => TextFault::OutOfMemory.number_and_name(),
         }
     }
 }
@@ -69,19 +69,19 @@ impl fmt::Display for BookFault {
     ghost output = { λ fault. Some (fault_text fault) };
 
     fn fmt<W: fmt::Write>(&self, f: &mut fmt::Formatter<W>) -> fmt::Result {
-        f.write_str(self.text())
+        f.write_str(self.number_and_name())
     }
 }
 
 impl FinishFault {
     /// Its number and its name, as they are printed.
-    pub fn text(self) -> &'static str
+    pub fn number_and_name(self) -> &'static str
         ensures { result.now ≡ finish_fault_text self }
     {
         match self {
             FinishFault::NoSuchJob => "9 NoSuchJob",
             FinishFault::Foreign => "10 Foreign",
-            FinishFault::OutOfMemory => TextFault::OutOfMemory.text(),
+            FinishFault::OutOfMemory => TextFault::OutOfMemory.number_and_name(),
         }
     }
 }
@@ -93,7 +93,7 @@ impl fmt::Display for FinishFault {
     ghost output = { λ fault. Some (finish_fault_text fault) };
 
     fn fmt<W: fmt::Write>(&self, f: &mut fmt::Formatter<W>) -> fmt::Result {
-        f.write_str(self.text())
+        f.write_str(self.number_and_name())
     }
 }
 

@@ -10,13 +10,13 @@ ghost use Rattle.pd_book.specs.Accepted.{AddsAreLegal, EditsAreLegal, RemovesAre
 ghost use Rattle.pd_book.specs.Turns.{IsAtRest, StartsAreOutstanding, TurnsSettle, NoneOwedWhenNoneWaits, TurnsAreLegal, TurnsSuffice, SettlesAll};
 ghost use Rattle.pd_book.specs.Headline.{CurrentWhenAnswered, RowsAreScripts, VerdictsAreRuns, VerdictsAreGrammars, ScratchWhenAllAnswered, WholeWhenAllAnswered, RowsAreOfScratch, RowsAreOfWhole, ScratchIsOne, NoneOwedWhenAllAnswered, TakenWhenUnchanged};
 
-use pd_run::law_verdicts_are_grammatical;
+use pd_run::law_verdicts_are_of_grammar_scripts;
 
 /// After any list of accepted calls, in any order, a script is shown with a verdict exactly when a job
 /// started since its last change was answered; its verdict is the run of its present text under the present
 /// settings; and when all are answered, none is owed and the report is the one from scratch. That each book's
 /// acts are legal is a clause of `Book::history`.
-pub fn law_headline()
+pub fn law_verdicts_are_of_current_runs()
     ensures current { (opening : Settings) → (past : List Act) → Legal opening past → CurrentWhenAnswered past (shown opening past) }
     ensures scripts { (opening : Settings) → (past : List Act) → RowsAreScripts past (shown opening past) }
     ensures verdicts { (opening : Settings) → (past : List Act) → VerdictsAreRuns opening past (shown opening past) }
@@ -29,11 +29,11 @@ pub fn law_headline()
     ensures owed { (opening : Settings) → (past : List Act) → NoneOwedWhenAllAnswered opening past (shown opening past) }
     ensures taken { (opening : Settings) → (past : List Act) → Legal opening past → TakenWhenUnchanged opening past }
 {
-    law_verdicts_are_grammatical();
+    law_verdicts_are_of_grammar_scripts();
 }
 
 /// After a legal history, exactly the acts of calls that aren't refused leave a legal one.
-pub fn law_accepting()
+pub fn law_acts_are_accepted_iff_legal()
     ensures adds { (history : History) → Legal history.opening history.past → AddsAreLegal history }
     ensures edits { (history : History) → Legal history.opening history.past → EditsAreLegal history }
     ensures removes { (history : History) → Legal history.opening history.past → RemovesAreLegal history }
@@ -51,7 +51,7 @@ pub fn law_accepting()
 /// pending and a legal history, where no script waits none is pending, and a settling that isn't refused a start
 /// leaves the report from scratch of the same scripts and settings. More turns give nothing more. A job that is handed
 /// out is outstanding then.
-pub fn law_settling()
+pub fn law_settling_ends_with_none_pending()
     ensures starts { (history : History) → Legal history.opening history.past → StartsAreOutstanding history }
     ensures turns { (opening : Settings) → (past : List Act) → Legal opening past → TurnsSettle opening past }
     ensures end { (opening : Settings) → (past : List Act) → Legal opening past → NoneOwedWhenNoneWaits opening past }

@@ -3,7 +3,7 @@
 //! A `Book` holds scripts and settings, which its callers change. `start` hands out a `Job`,
 //! `run_job` makes a `Done` of it, whenever and wherever, and `finish` takes it or rules it stale.
 //! `show` gives a `Report` with a `Row` for each script. What a book shows is defined on the list
-//! of its accepted calls alone (`Book::history`, a list of `Act`s), and `law_headline` says it in terms
+//! of its accepted calls alone (`Book::history`, a list of `Act`s), and `law_verdicts_are_of_current_runs` says it in terms
 //! of positions in that list.
 //!
 //! ```text
@@ -55,7 +55,10 @@ mod track_cache;
 pub use act::{Act, Ruling};
 pub use book::{Book, MAX_ACTS};
 pub use faults::{BookFault, FinishFault};
-pub use laws::{law_accepting, law_headline, law_settling};
+pub use laws::{
+    law_acts_are_accepted_iff_legal, law_settling_ends_with_none_pending,
+    law_verdicts_are_of_current_runs,
+};
 pub use pd_track::{Done, Job, Task, Track, Unfinished, run_job};
 pub use report::{Report, Row};
 pub use shared_edit::SharedEdit;

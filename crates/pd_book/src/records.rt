@@ -3,7 +3,7 @@ ghost use Rattle.std.specs.Prelude.{◌≡◌, ◌+◌, ◌^◌, ◌≤◌, ◌<
 ghost use Rattle.std.specs.Str.{bytes_eq};
 ghost use Rattle.pd_book.specs.Acts.{without};
 ghost use Rattle.pd_book.specs.StoredScripts.{with_state};
-ghost use Rattle.pd_book.specs.Replay.{settle, make_abandoned_pending};
+ghost use Rattle.pd_book.specs.Replay.{settle, make_pending_if_running_task};
 
 use crate::act::{Act, Ruling};
 use crate::scripts::Scripts;
@@ -51,7 +51,7 @@ impl Records {
     ///
     /// # Errors
     /// `AllocError` where a growth is refused.
-    pub fn make_room_for_start(&mut self) -> Result<(), AllocError>
+    pub fn reserve_acts_and_task_for_start(&mut self) -> Result<(), AllocError>
         requires { vec_len self.old.tasks < 2 ^ 63 }
         ensures acts { self.new.acts.items ≡ self.old.acts.items }
         ensures tasks { self.new.tasks.items ≡ self.old.tasks.items }
@@ -65,7 +65,7 @@ impl Records {
     }
 
     /// Keeps what a start leaves, and hands out its job.
-    pub fn record_start(&mut self, pending: PendingStart) -> Job
+    pub fn record_start_and_hand_out_job(&mut self, pending: PendingStart) -> Job
         requires act_room { vec_len self.old.acts < vec_capacity self.old.acts }
         requires job_room { vec_len self.old.tasks < vec_capacity self.old.tasks }
         ensures job { result ≡ pending.job }
@@ -76,14 +76,14 @@ impl Records {
     {
         let PendingStart { job, task, act } = pending;
         self.scripts
-            .set_state(job.name(), ScriptState::Running(job.number()));
+            .set_state_by_name(job.name(), ScriptState::Running(job.number()));
         push_task(&mut self.tasks, task);
         record_act(&mut self.acts, act);
         job
     }
 
     /// Keeps what a finish leaves.
-    pub fn record_finish(&mut self, done: &Done, ruling: Ruling)
+    pub fn record_finish_and_store_taken_verdict(&mut self, done: &Done, ruling: Ruling)
         requires { vec_len self.old.acts < vec_capacity self.old.acts }
         ensures past { reverse self.new.acts.items ≡ Act.Finish done.now.number ruling ∷ reverse self.old.acts.items }
         ensures capacity { vec_capacity self.old.acts ≤ vec_capacity self.new.acts }
@@ -92,24 +92,24 @@ impl Records {
     {
         if let Ruling::Taken = ruling {
             self.scripts
-                .set_state(done.name(), ScriptState::Answered(done.verdict()));
+                .set_state_by_name(done.name(), ScriptState::Answered(done.verdict()));
         }
-        drop_task(&mut self.tasks, done.number());
+        remove_task_by_number(&mut self.tasks, done.number());
         record_act(&mut self.acts, Act::Finish(done.number(), ruling));
     }
 
     /// Keeps what an abandonment leaves.
-    pub fn record_abandon(&mut self, number: u64)
+    pub fn record_abandon_drop_task_make_pending(&mut self, number: u64)
         requires { vec_len self.old.acts < vec_capacity self.old.acts }
         ensures past { reverse self.new.acts.items ≡ Act.Abandon number ∷ reverse self.old.acts.items }
         ensures capacity { vec_capacity self.old.acts ≤ vec_capacity self.new.acts }
         ensures tasks { self.new.tasks.items ≡ without number self.old.tasks.items }
-        ensures scripts { self.new.scripts ≡ make_abandoned_pending (find (λ task. number == task.number) self.old.tasks.items) self.old.scripts }
+        ensures scripts { self.new.scripts ≡ make_pending_if_running_task (find (λ task. number == task.number) self.old.tasks.items) self.old.scripts }
     {
-        if let Some(task) = task_of_number(self.tasks.as_slice(), number) {
-            self.scripts.make_abandoned_pending(task);
+        if let Some(task) = find_task_by_number(self.tasks.as_slice(), number) {
+            self.scripts.make_pending_if_running_task(task);
         }
-        drop_task(&mut self.tasks, number);
+        remove_task_by_number(&mut self.tasks, number);
         record_act(&mut self.acts, Act::Abandon(number));
     }
 }
@@ -132,13 +132,13 @@ fn push_task(tasks: &mut Vec<Task>, task: Task)
 }
 
 /// The task of this number.
-pub fn task_of_number(tasks: &[Task], number: u64) -> Option<&Task>
+pub fn find_task_by_number(tasks: &[Task], number: u64) -> Option<&Task>
     ensures { option_copied result ≡ find (λ task. number == task.number) tasks.now }
 {
     tasks.iter().find(|task| number == task.number)
 }
 
-fn drop_task(tasks: &mut Vec<Task>, number: u64)
+fn remove_task_by_number(tasks: &mut Vec<Task>, number: u64)
     ensures { tasks.new.items ≡ without number tasks.old.items }
 {
     tasks.retain(|task| number != task.number);

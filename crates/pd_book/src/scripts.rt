@@ -6,7 +6,7 @@ ghost use Rattle.std.specs.Map.{lookup, remove_entry, keys_of, values_of};
 ghost use Rattle.std.specs.Map.Iter.{deref_pair};
 ghost use Rattle.std.specs.Str.{bytes_eq};
 ghost use Rattle.pd_book.specs.StoredScripts.{in_state, is_pending, verdict_in, is_running_job, written_at, with_state, without_name, all_pending, kept_row};
-ghost use Rattle.pd_book.specs.Replay.{make_abandoned_pending};
+ghost use Rattle.pd_book.specs.Replay.{make_pending_if_running_task};
 
 use crate::report::Row;
 use crate::stored_script::{ScriptState, StoredScript};
@@ -60,7 +60,7 @@ impl Scripts {
     ///
     /// # Errors
     /// `AllocError` only where a count of owners is full.
-    pub fn interned_name(&self, name: &Name) -> Result<Name, AllocError>
+    pub fn share_stored_name_or_given(&self, name: &Name) -> Result<Name, AllocError>
         ensures { IfOk result (λ kept. kept ≡ name.now) }
     {
         match self.by_name.get_key_value(name) {
@@ -97,7 +97,7 @@ impl Scripts {
     }
 
     /// Gives the script of this name another text; it is pending then.
-    pub fn replace_text(&mut self, name: &Name, text: Text)
+    pub fn replace_text_and_make_pending(&mut self, name: &Name, text: Text)
         ensures written { self.new ≡ written_at name.now (λ s. record { text = text; state = ScriptState.Pending }) self.old }
         ensures distinct { IsDistinct bytes_eq (keys_of self.old) }
     {
@@ -124,7 +124,7 @@ impl Scripts {
     }
 
     /// The first script that is pending.
-    pub fn first_pending(&self) -> Option<(&Name, &StoredScript)>
+    pub fn find_first_pending_name_and_script(&self) -> Option<(&Name, &StoredScript)>
         ensures { option_map deref_pair result ≡ find is_pending self.now }
     {
         self.by_name
@@ -160,7 +160,7 @@ impl Scripts {
     {
         let mut rows = Vec::with_capacity(alloc, self.by_name.len())?;
         for (name, script) in self.by_name.iter() {
-            rows.push(row_of(name, script)?)?;
+            rows.push(report_row_of_script(name, script)?)?;
         }
         Ok(rows)
     }
@@ -176,13 +176,13 @@ impl Scripts {
     }
 
     /// Puts the script of this name into another state.
-    pub fn set_state(&mut self, name: &Name, state: ScriptState)
+    pub fn set_state_by_name(&mut self, name: &Name, state: ScriptState)
         ensures { self.new ≡ with_state (bytes_eq name.now) state self.old }
     {
-        self.write_state(name, state);
+        self.replace_state_if_script_exists(name, state);
     }
 
-    fn write_state(&mut self, name: &Name, state: ScriptState)
+    fn replace_state_if_script_exists(&mut self, name: &Name, state: ScriptState)
         ensures written { self.new ≡ written_at name.now (λ s. in_state s state) self.old }
         ensures distinct { IsDistinct bytes_eq (keys_of self.old) }
     {
@@ -192,11 +192,11 @@ impl Scripts {
     }
 
     /// Makes the script of an abandoned task pending, if it runs that job.
-    pub fn make_abandoned_pending(&mut self, task: &Task)
-        ensures { self.new ≡ make_abandoned_pending (Some task.now) self.old }
+    pub fn make_pending_if_running_task(&mut self, task: &Task)
+        ensures { self.new ≡ make_pending_if_running_task (Some task.now) self.old }
     {
         if self.is_running_job(&task.name, task.number) {
-            self.set_state(&task.name, ScriptState::Pending);
+            self.set_state_by_name(&task.name, ScriptState::Pending);
         }
     }
 
@@ -212,7 +212,7 @@ impl Scripts {
 }
 
 /// The row of a script.
-fn row_of(name: &Name, script: &StoredScript) -> Result<Row, AllocError>
+fn report_row_of_script(name: &Name, script: &StoredScript) -> Result<Row, AllocError>
     ensures { IfOk result (λ row. row ≡ kept_row (name.now, script.now)) }
 {
     Ok(Row {

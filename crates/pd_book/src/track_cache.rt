@@ -4,7 +4,7 @@ ghost use Rattle.std.specs.NonZero.{non_zero_usize_get};
 ghost use Rattle.std.specs.Str.{bytes_eq};
 ghost use Rattle.lru.specs.LruCache.{lru_cache, put_entries};
 ghost use Rattle.pd_text.specs.Text.{common_prefix};
-ghost use Rattle.pd_book.specs.TrackCache.{track_of, marked_used, cached_first, without_track, source_of, is_better_than_cached};
+ghost use Rattle.pd_book.specs.TrackCache.{track_of, marked_used, cached_first, without_track, source_of, shares_more_lines_than_cached};
 
 use crate::book::Book;
 use lru::LruCache;
@@ -52,7 +52,7 @@ impl TrackCache {
     }
 
     /// The track under a name; its place in the order stays.
-    pub fn track(&self, name: &Name) -> Option<&Track>
+    pub fn peek_track(&self, name: &Name) -> Option<&Track>
         ensures { option_copied result ≡ track_of name.now self.now }
     {
         match &self.cache {
@@ -82,32 +82,33 @@ impl TrackCache {
     }
 
     /// Whether the result's track shares more first lines with a text than the track under its name.
-    pub fn is_better_than_cached(&self, done: &Done, text: &Text) -> bool
-        ensures { result ≡ is_better_than_cached text.now (source_of done.now) (track_of done.now.name self.now) }
+    pub fn shares_more_lines_than_cached(&self, done: &Done, text: &Text) -> bool
+        ensures { result ≡ shares_more_lines_than_cached text.now (source_of done.now) (track_of done.now.name self.now) }
     {
-        match self.track(done.name()) {
-            Some(kept) => shared_line_count(kept, text) < shared_line_count(done.track(), text),
+        match self.peek_track(done.name()) {
+            Some(kept) => common_leading_line_count(kept, text)
+                < common_leading_line_count(done.track(), text),
             None => true,
         }
     }
 
     /// Keeps the track of a result at the front, if it is to be kept and where there is memory for it.
-    pub fn cache_track(&mut self, alloc: Global, done: &Done, should_cache: bool)
+    pub fn cache_track_at_front_if_wanted(&mut self, alloc: Global, done: &Done, should_cache: bool)
         ensures { (self.new ≡ (if should_cache then cached_first done.now.name (source_of done.now) self.old else self.old)) ⊎ (self.new ≡ self.old) }
     {
         if should_cache {
-            let _ = self.put_at_front(alloc, done);
+            let _ = self.push_track_and_keep_evicted(alloc, done);
         }
     }
 
     /// Hands out the track that was taken out last, if it is still there.
-    pub fn take_evicted(&mut self) -> Option<Track>
+    pub fn take_evicted_track_if_any(&mut self) -> Option<Track>
         ensures { self.new ≡ self.old }
     {
         self.evicted.take()
     }
 
-    fn put_at_front(&mut self, alloc: Global, done: &Done) -> Result<(), AllocError>
+    fn push_track_and_keep_evicted(&mut self, alloc: Global, done: &Done) -> Result<(), AllocError>
         ensures put_at_front { OnOk result (self.new ≡ cached_first done.now.name (source_of done.now) self.old) }
         ensures same { OnErr result (self.new ≡ self.old) }
     {
@@ -118,7 +119,7 @@ impl TrackCache {
             self.cache = Some(LruCache::new(alloc, self.max_tracks)?);
         }
         if let Some(cache) = &mut self.cache {
-            self.evicted = push(cache, name, track)?;
+            self.evicted = push_and_return_evicted(cache, name, track)?;
         }
         Ok(())
     }
@@ -127,15 +128,15 @@ impl TrackCache {
 impl Book {
     /// Hands out the track that a finish or a remove took out last, if it is still there. Freeing one takes far longer than
     /// either: who shares the book takes it along, and drops it where no other waits.
-    pub fn take_evicted(&mut self) -> Option<Track>
+    pub fn take_evicted_track_if_any(&mut self) -> Option<Track>
         ensures { self.new ≡ self.old }
     {
-        self.tracks.take_evicted()
+        self.tracks.take_evicted_track_if_any()
     }
 }
 
 /// Keeps a track at the front, and gives the one that falls out.
-fn push(
+fn push_and_return_evicted(
     cache: &mut LruCache<Name, Track>,
     name: Name,
     track: Track,
@@ -151,7 +152,7 @@ fn push(
 }
 
 /// With how many lines the track's text begins as this one does.
-fn shared_line_count(track: &Track, text: &Text) -> usize
+fn common_leading_line_count(track: &Track, text: &Text) -> usize
     ensures { result ≡ common_prefix track.now.text text.now }
 {
     track.text().lines().same_front(text.lines())

@@ -7,7 +7,7 @@ use Rattle.pd_book.specs.Headline.{ScratchIsOne}
 use Rattle.pd_book.specs.Report.{ReportView, scratch}
 use Rattle.pd_book.specs.History.{History}
 use Rattle.pd_protocol.specs.CommandLines.{command_line_of}
-use Rattle.pd_protocol.specs.Commands.{InputItem, does, stops, fitted, edit_of, with_lines, items_at, items, commands}
+use Rattle.pd_protocol.specs.Commands.{InputItem, does, stops, fitted, line_edit_if_lines_are_some, with_lines, items_at, items, commands}
 use Rattle.pd_protocol.specs.NextCommand.{FaultIn}
 use Rattle.pd_protocol.specs.declared.command_line.CommandLine.{CommandLine}
 use Rattle.pd_protocol.specs.declared.command_line.CommandLine.TheVariants as asks
@@ -47,7 +47,7 @@ at_settled : (command_line : CommandLine) (after : List (List ℕ)) (rest : ℕ 
 at_settled asks.Empty after rest k = k 0
 at_settled asks.Bad after rest k = tt
 at_settled (asks.Add name count) after rest k = with_settled count after (λ text. Add name text) rest k
-at_settled (asks.Edit name from remove count) after rest k = with_settled count after (λ insert. Edit name (edit_of from remove insert)) rest k
+at_settled (asks.Edit name from remove count) after rest k = with_settled count after (λ insert. Edit name (line_edit_if_lines_are_some from remove insert)) rest k
 at_settled (asks.Remove name) after rest k = longer_settled (Remove name) (rest 0) (k 0)
 at_settled (asks.Set key value) after rest k = longer_settled (Set key value) (rest 0) (k 0)
 at_settled asks.Show after rest k = longer_settled Show (rest 0) (k 0)

@@ -14,7 +14,7 @@ use Rattle.pd_book.specs.declared.faults.BookFault.{BookFault}
 use Rattle.pd_book.specs.declared.report.Row.{Row}
 use Rattle.pd_book.specs.Acts.{NamedText, texts, now}
 use Rattle.pd_book.specs.Headline.{AreOrPending, ScratchIsOne, pending}
-use Rattle.pd_book.specs.Refusals.{or_else, value_refusal}
+use Rattle.pd_book.specs.Refusals.{or_else, refusal_if_key_unknown_or_value_bad}
 use Rattle.pd_book.specs.Report.{ReportView, IsRunUnder, scratch_row, scratch}
 use Rattle.pd_book.specs.History.{History, after_act}
 use Rattle.pd_protocol.specs.Commands.{InputItem, does, stops, commands}
@@ -42,10 +42,10 @@ pub act_declined : (history : History) (refusal : Option BookFault) (a : Act) (o
 act_declined history (Some fault) a octets h = (h, refl)
 act_declined history None a octets h = inr (h, refl)
 
-pub set_declined : (history : History) (o : Option Key) (value : Value) (octets : List ℕ) → Declines (value_refusal (now history.opening history.past) o value) octets
-    → MayAct history (value_refusal (now history.opening history.past) o value) (option_map (λ k. act.Set k value) o) octets history
+pub set_declined : (history : History) (o : Option Key) (value : Value) (octets : List ℕ) → Declines (refusal_if_key_unknown_or_value_bad (now history.opening history.past) o value) octets
+    → MayAct history (refusal_if_key_unknown_or_value_bad (now history.opening history.past) o value) (option_map (λ k. act.Set k value) o) octets history
 set_declined history None value octets h = (h, refl)
-set_declined history (Some k) value octets h = act_declined history (value_refusal (now history.opening history.past) (Some k) value) (act.Set k value) octets h
+set_declined history (Some k) value octets h = act_declined history (refusal_if_key_unknown_or_value_bad (now history.opening history.past) (Some k) value) (act.Set k value) octets h
 
 -- a setting that is accepted with workers, or isn't
 pub set_printed : {V : Type 0} (reply : Result V ServeFault) (octets : V → List ℕ) (r : Result (Unit {0}) BookFault) (history next : History) (o : Option Key) (value : Value) (refusal room : Option BookFault) → IfOk reply (λ v. octets v ≡ []) → IfOk reply (λ v. IsOk r)
@@ -55,8 +55,8 @@ set_printed (Ok v) octets (Err x) history next o value refusal room n k t a = ab
 set_printed (Ok v) octets (Ok u) history next None value refusal room n k t a = absurd t
 set_printed (Ok v) octets (Ok u) history next (Some key) value refusal room n k t a = act_accepted history next refusal room (Some (act.Set key value)) (octets v) a t n
 
-pub set_unprinted : {V : Type 0} (reply : Result V ServeFault) (octets : V → List ℕ) (history : History) (o : Option Key) (value : Value) (refusal : Option BookFault) → refusal ≡ value_refusal (now history.opening history.past) o value → IfOk reply (λ v. Declines refusal (octets v))
-    → IfOk reply (λ v. MayAct history (value_refusal (now history.opening history.past) o value) (option_map (λ k. act.Set k value) o) (octets v) history)
+pub set_unprinted : {V : Type 0} (reply : Result V ServeFault) (octets : V → List ℕ) (history : History) (o : Option Key) (value : Value) (refusal : Option BookFault) → refusal ≡ refusal_if_key_unknown_or_value_bad (now history.opening history.past) o value → IfOk reply (λ v. Declines refusal (octets v))
+    → IfOk reply (λ v. MayAct history (refusal_if_key_unknown_or_value_bad (now history.opening history.past) o value) (option_map (λ k. act.Set k value) o) (octets v) history)
 set_unprinted (Err x) octets history o value refusal e d = tt
 set_unprinted (Ok v) octets history o value refusal e d = set_declined history o value (octets v) (subst (λ (f : Option BookFault). Declines f (octets v)) e d)
 

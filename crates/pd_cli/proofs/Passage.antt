@@ -4,7 +4,7 @@ use Rattle.std.specs.List.{list_all, slice_split, onto_first}
 use Rattle.std.specs.Str.Lines.{lines, lines_of_parts, strip_carriage_return}
 use Rattle.std.proofs.lemmas.Bool.{leb-true}
 use Rattle.std.proofs.lemmas.List.Splits.{slice_split_at, slice_split-cons_no}
-use Rattle.pd_text.specs.Text.{is_line, AreLines, FitsText, fits_text, octets_of}
+use Rattle.pd_text.specs.Text.{has_no_newline, AreLines, FitsText, fits_text, octets_of}
 use Rattle.pd_text.specs.declared.line_edit.LineEdit.{LineEdit}
 use Rattle.pd_settings.specs.Keys.{key_named}
 use Rattle.pd_settings.specs.declared.keys.Key.{Key}
@@ -20,7 +20,7 @@ use Rattle.pd_book.specs.History.{History, after_act}
 use Rattle.pd_book.specs.Turns.{settled, IsAtRest, IsSettled, SettlesAll}
 use Rattle.pd_book.specs.Refusals.{add_refusal, edit_refusal, remove_refusal, set_refusal}
 use Rattle.pd_protocol.specs.CommandLines.{command_line_of}
-use Rattle.pd_protocol.specs.Commands.{InputItem, does, stops, fitted, edit_of, with_lines, items_at, items, commands}
+use Rattle.pd_protocol.specs.Commands.{InputItem, does, stops, fitted, line_edit_if_lines_are_some, with_lines, items_at, items, commands}
 use Rattle.pd_protocol.specs.declared.command_line.CommandLine.{CommandLine}
 use Rattle.pd_protocol.specs.declared.command_line.CommandLine.TheVariants as asks
 use Rattle.pd_protocol.specs.declared.command.Command.{Command}
@@ -35,36 +35,36 @@ use Rattle.pd_cli.proofs.Written.{ok_same, quiet_reported, first_outcome}
 
 -- ---- the lines of an input hold no newline
 
-line_take : (n : ℕ) (line : List ℕ) → is_line line ≡ true → is_line (take n line) ≡ true
+line_take : (n : ℕ) (line : List ℕ) → has_no_newline line ≡ true → has_no_newline (take n line) ≡ true
 line_take zero line h = refl
 line_take (suc n) [] h = refl
 line_take (suc n) (x ∷ line) h = go (not (x == 10)) h (line_take n line)
   where
-    go : (b : Bool) → (b && is_line line) ≡ true → (is_line line ≡ true → is_line (take n line) ≡ true) → (b && is_line (take n line)) ≡ true
+    go : (b : Bool) → (b && has_no_newline line) ≡ true → (has_no_newline line ≡ true → has_no_newline (take n line) ≡ true) → (b && has_no_newline (take n line)) ≡ true
     go true k f = f k
     go false k f = absurd cc
 
-line_strip : (line : List ℕ) → is_line line ≡ true → is_line (strip_carriage_return line) ≡ true
+line_strip : (line : List ℕ) → has_no_newline line ≡ true → has_no_newline (strip_carriage_return line) ≡ true
 line_strip line h = go (slice_index line (length line - 1) == 13)
   where
-    go : (b : Bool) → is_line (cond b (take (length line - 1) line) line) ≡ true
+    go : (b : Bool) → has_no_newline (cond b (take (length line - 1) line) line) ≡ true
     go true = line_take (length line - 1) line h
     go false = h
 
 abbrev newline : ℕ → Bool
 newline octet = octet == 10
 
-onto_line : (x : ℕ) (parts : List (List ℕ)) → newline x ≡ false → list_all is_line parts ≡ true → list_all is_line (onto_first x parts) ≡ true
+onto_line : (x : ℕ) (parts : List (List ℕ)) → newline x ≡ false → list_all has_no_newline parts ≡ true → list_all has_no_newline (onto_first x parts) ≡ true
 onto_line x [] e h = rw e refl
 onto_line x (part ∷ parts) e h = rw e h
 
-parts_are_lines : (octets : List ℕ) → list_all is_line (slice_split newline octets) ≡ true
+parts_are_lines : (octets : List ℕ) → list_all has_no_newline (slice_split newline octets) ≡ true
 parts_are_lines [] = refl
 parts_are_lines (x ∷ octets) = go (newline x) refl (parts_are_lines octets)
   where
-    go : (b : Bool) → newline x ≡ b → list_all is_line (slice_split newline octets) ≡ true → list_all is_line (slice_split newline (x ∷ octets)) ≡ true
-    go true e h = ap (list_all is_line) (slice_split_at newline [] x octets (λ k d lt. absurd (omega (arith, lt))) e) ∙ h
-    go false e h = ap (list_all is_line) (slice_split-cons_no newline x octets e) ∙ onto_line x (slice_split newline octets) e h
+    go : (b : Bool) → newline x ≡ b → list_all has_no_newline (slice_split newline octets) ≡ true → list_all has_no_newline (slice_split newline (x ∷ octets)) ≡ true
+    go true e h = ap (list_all has_no_newline) (slice_split_at newline [] x octets (λ k d lt. absurd (omega (arith, lt))) e) ∙ h
+    go false e h = ap (list_all has_no_newline) (slice_split-cons_no newline x octets e) ∙ onto_line x (slice_split newline octets) e h
 
 and_parts : (a b : Bool) → (a && b) ≡ true → (a ≡ true) × (b ≡ true)
 and_parts true b h = (refl, h)
@@ -73,16 +73,16 @@ and_parts false b h = absurd cc
 and_join : (a b : Bool) → a ≡ true → b ≡ true → (a && b) ≡ true
 and_join a b e f = rw (e, f) refl
 
-lines_of_lines : (parts : List (List ℕ)) → list_all is_line parts ≡ true → list_all is_line (lines_of_parts parts) ≡ true
+lines_of_lines : (parts : List (List ℕ)) → list_all has_no_newline parts ≡ true → list_all has_no_newline (lines_of_parts parts) ≡ true
 lines_of_lines [] h = refl
 lines_of_lines (x ∷ []) h = go (length x == 0)
   where
-    go : (b : Bool) → list_all is_line (cond b [] (x ∷ [])) ≡ true
+    go : (b : Bool) → list_all has_no_newline (cond b [] (x ∷ [])) ≡ true
     go true = refl
     go false = h
 lines_of_lines (x ∷ y ∷ parts) h =
-    let both = and_parts (is_line x) (list_all is_line (y ∷ parts)) h in
-    and_join (is_line (strip_carriage_return x)) (list_all is_line (lines_of_parts (y ∷ parts))) (line_strip x both.0) (lines_of_lines (y ∷ parts) both.1)
+    let both = and_parts (has_no_newline x) (list_all has_no_newline (y ∷ parts)) h in
+    and_join (has_no_newline (strip_carriage_return x)) (list_all has_no_newline (lines_of_parts (y ∷ parts))) (line_strip x both.0) (lines_of_lines (y ∷ parts) both.1)
 
 pub lines_are_lines : (input : List ℕ) → AreLines (lines input)
 lines_are_lines input = lines_of_lines (slice_split newline input) (parts_are_lines input)
@@ -91,8 +91,8 @@ lines_take : (n : ℕ) (ls : List (List ℕ)) → AreLines ls → AreLines (take
 lines_take zero ls h = refl
 lines_take (suc n) [] h = refl
 lines_take (suc n) (x ∷ ls) h =
-    let both = and_parts (is_line x) (list_all is_line ls) h in
-    and_join (is_line x) (list_all is_line (take n ls)) both.0 (lines_take n ls both.1)
+    let both = and_parts (has_no_newline x) (list_all has_no_newline ls) h in
+    and_join (has_no_newline x) (list_all has_no_newline (take n ls)) both.0 (lines_take n ls both.1)
 
 -- ---- the texts and edits of the commands of an input
 
@@ -136,7 +136,7 @@ fitted_fits ls h = go (fits_text ls) refl
     go true e = (fits_of ls e, h)
     go false e = tt
 
-edit_fits : (from remove : ℕ) (insert : Option (List (List ℕ))) → FitsLines insert → FitsEdit (edit_of from remove insert)
+edit_fits : (from remove : ℕ) (insert : Option (List (List ℕ))) → FitsLines insert → FitsEdit (line_edit_if_lines_are_some from remove insert)
 edit_fits from remove None h = tt
 edit_fits from remove (Some ls) h = h.1
 
@@ -152,7 +152,7 @@ at_fit : (command_line : CommandLine) (after : List (List ℕ)) (rest : ℕ → 
 at_fit asks.Empty after rest h k = k 0
 at_fit asks.Bad after rest h k = (tt, tt)
 at_fit (asks.Add name count) after rest h k = with_fit count after (λ text. Add name text) rest h (λ text f. f) k
-at_fit (asks.Edit name from remove count) after rest h k = with_fit count after (λ insert. Edit name (edit_of from remove insert)) rest h (λ insert f. edit_fits from remove insert f) k
+at_fit (asks.Edit name from remove count) after rest h k = with_fit count after (λ insert. Edit name (line_edit_if_lines_are_some from remove insert)) rest h (λ insert f. edit_fits from remove insert f) k
 at_fit (asks.Remove name) after rest h k = (tt, k 0)
 at_fit (asks.Set key value) after rest h k = (tt, k 0)
 at_fit asks.Show after rest h k = (tt, k 0)
@@ -161,9 +161,9 @@ at_fit asks.Settle after rest h k = (tt, k 0)
 pub items_fit : (ls : List (List ℕ)) (n : ℕ) → AreLines ls → AllFit (items n ls)
 items_fit [] n h = (tt, tt)
 items_fit (line ∷ ls) zero h =
-    let both = and_parts (is_line line) (list_all is_line ls) h in
+    let both = and_parts (has_no_newline line) (list_all has_no_newline ls) h in
     at_fit (command_line_of line) ls (λ n. items n ls) both.1 (λ n. items_fit ls n both.1)
-items_fit (line ∷ ls) (suc n) h = items_fit ls n (and_parts (is_line line) (list_all is_line ls) h).1
+items_fit (line ∷ ls) (suc n) h = items_fit ls n (and_parts (has_no_newline line) (list_all has_no_newline ls) h).1
 
 -- ---- the histories
 

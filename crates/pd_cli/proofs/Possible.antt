@@ -11,7 +11,7 @@ use Rattle.pd_book.specs.declared.faults.BookFault.{BookFault}
 use Rattle.pd_book.specs.declared.faults.BookFault.TheVariants as book
 use Rattle.pd_book.specs.Acts.{NamedText, texts, present_text, now, set_to, edited_at}
 use Rattle.pd_book.specs.Headline.{AreOrPending, RowsAreOfScratch, ScratchIsOne}
-use Rattle.pd_book.specs.Refusals.{room_refusal, taken_room, or_else, name_refusal, line_edit_refusal, missing_refusal, value_refusal}
+use Rattle.pd_book.specs.Refusals.{history_full_fault_unless_space_for, taken_room, or_else, refusal_if_name_bad_taken_or_too_many, line_edit_refusal, missing_refusal, refusal_if_key_unknown_or_value_bad}
 use Rattle.pd_book.specs.Report.{shown, scratch}
 use Rattle.pd_book.specs.History.{History, after_act}
 use Rattle.pd_protocol.specs.Commands.{InputItem, does, stops, commands}
@@ -29,7 +29,7 @@ abbrev Possible : History → Command → List ℕ → History → Type 0
 Possible accepted command printed after = (next : History) × MayPrint accepted command printed next × HaveSame after next
 
 -- a full history is the only refusal of room
-full_is : (more : ℕ) (history : History) (fault : BookFault) → room_refusal more history ≡ Some fault → fault ≡ book.HistoryFull
+full_is : (more : ℕ) (history : History) (fault : BookFault) → history_full_fault_unless_space_for more history ≡ Some fault → fault ≡ book.HistoryFull
 full_is more history fault e = go (nat_le (taken_room history + more) 65536) e
   where
     go : (b : Bool) → cond b None (Some book.HistoryFull) ≡ Some fault → fault ≡ book.HistoryFull
@@ -37,14 +37,14 @@ full_is more history fault e = go (nat_le (taken_room history + more) 65536) e
     go false k = cc
 
 possible_act : (history accepted after : History) (refusal : Option BookFault) (a : Option Act) (printed : List ℕ) → HaveSame history accepted → (refusal ≡ None → is_some a ≡ true) → ((x : Act) → HaveSame (after_act history x) (after_act accepted x))
-    → acted history (or_else refusal (room_refusal 1 history)) a ≡ (printed, after) → (next : History) × MayAct accepted refusal a printed next × HaveSame after next
+    → acted history (or_else refusal (history_full_fault_unless_space_for 1 history)) a ≡ (printed, after) → (next : History) × MayAct accepted refusal a printed next × HaveSame after next
 possible_act history accepted after (Some fault) a printed same some more e =
     let is : after ≡ history = sym (ap (λ (p : List ℕ × History). p.1) e) in
     (accepted, (sym (ap (λ (p : List ℕ × History). p.0) e), refl), rw is same)
 possible_act history accepted after None None printed same some more e = let bad : false ≡ true = some refl in absurd cc
-possible_act history accepted after None (Some x) printed same some more e = go (room_refusal 1 history) refl e
+possible_act history accepted after None (Some x) printed same some more e = go (history_full_fault_unless_space_for 1 history) refl e
   where
-    go : (room : Option BookFault) → room_refusal 1 history ≡ room → acted history room (Some x) ≡ (printed, after) → (next : History) × MayAct accepted None (Some x) printed next × HaveSame after next
+    go : (room : Option BookFault) → history_full_fault_unless_space_for 1 history ≡ room → acted history room (Some x) ≡ (printed, after) → (next : History) × MayAct accepted None (Some x) printed next × HaveSame after next
     go None r k =
         let is : after ≡ after_act history x = sym (ap (λ (p : List ℕ × History). p.1) k) in
         (after_act accepted x, inl (sym (ap (λ (p : List ℕ × History). p.0) k), refl), rw is (more x))
@@ -63,7 +63,7 @@ same_after_act history accepted same (act.Start number name) = same
 same_after_act history accepted same (act.Finish number ruling) = same
 same_after_act history accepted same (act.Abandon number) = same
 
-set_some : (settings : Settings) (o : Option Key) (value : Value) → value_refusal settings o value ≡ None → is_some (option_map (λ k. act.Set k value) o) ≡ true
+set_some : (settings : Settings) (o : Option Key) (value : Value) → refusal_if_key_unknown_or_value_bad settings o value ≡ None → is_some (option_map (λ k. act.Set k value) o) ≡ true
 set_some settings None value e = absurd cc
 set_some settings (Some k) value e = refl
 
@@ -73,8 +73,8 @@ possible : ((scripts : List NamedText) → (settings : Settings) → ScratchIsOn
 possible one history accepted after (Add name None) printed same rows settles e = possible_act history accepted after (Some book.TooLarge) None printed same (λ n. absurd cc) (same_after_act history accepted same) (ok_same _ _ e)
 possible one history accepted after (Edit name None) printed same rows settles e = possible_act history accepted after (Some book.TooLarge) None printed same (λ n. absurd cc) (same_after_act history accepted same) (ok_same _ _ e)
 possible one history accepted after (Add name (Some text)) printed same rows settles e =
-    let here : name_refusal history.past name ≡ name_refusal accepted.past name = rw same.0 refl in
-    rw (← here) (possible_act history accepted after (name_refusal history.past name) (Some (act.Add name text)) printed same (λ n. refl) (same_after_act history accepted same) (ok_same _ _ e))
+    let here : refusal_if_name_bad_taken_or_too_many history.past name ≡ refusal_if_name_bad_taken_or_too_many accepted.past name = rw same.0 refl in
+    rw (← here) (possible_act history accepted after (refusal_if_name_bad_taken_or_too_many history.past name) (Some (act.Add name text)) printed same (λ n. refl) (same_after_act history accepted same) (ok_same _ _ e))
 possible one history accepted after (Edit name (Some edit)) printed same rows settles e =
     let here : line_edit_refusal (present_text history.past name) edit ≡ line_edit_refusal (present_text accepted.past name) edit = rw same.0 refl in
     rw (← here) (possible_act history accepted after (line_edit_refusal (present_text history.past name) edit) (Some (act.Edit name edit)) printed same (λ n. refl) (same_after_act history accepted same) (ok_same _ _ e))
@@ -82,9 +82,9 @@ possible one history accepted after (Remove name) printed same rows settles e =
     let here : missing_refusal history.past name ≡ missing_refusal accepted.past name = rw same.0 refl in
     rw (← here) (possible_act history accepted after (missing_refusal history.past name) (Some (act.Remove name)) printed same (λ n. refl) (same_after_act history accepted same) (ok_same _ _ e))
 possible one history accepted after (Set key value) printed same rows settles e =
-    let here : value_refusal (now history.opening history.past) (key_named key) value ≡ value_refusal (now accepted.opening accepted.past) (key_named key) value = rw same.1 refl in
+    let here : refusal_if_key_unknown_or_value_bad (now history.opening history.past) (key_named key) value ≡ refusal_if_key_unknown_or_value_bad (now accepted.opening accepted.past) (key_named key) value = rw same.1 refl in
     rw (← here)
-    (possible_act history accepted after (value_refusal (now history.opening history.past) (key_named key) value) (option_map (λ k. act.Set k value) (key_named key)) printed same
+    (possible_act history accepted after (refusal_if_key_unknown_or_value_bad (now history.opening history.past) (key_named key) value) (option_map (λ k. act.Set k value) (key_named key)) printed same
     (set_some (now history.opening history.past) (key_named key) value) (same_after_act history accepted same) (ok_same _ _ e))
 possible one history accepted after Show printed same rows settles e =
     let pair = ok_same (rendered (report history), history) (printed, after) e in

@@ -13,7 +13,7 @@ use Rattle.pd_protocol.specs.declared.program_faults.ProgramFault.TheVariants.{S
 use Rattle.pd_protocol.specs.declared.faults.ServeFault.TheVariants.{OutOfMemory}
 use Rattle.pd_protocol.proofs.Writing.{says_front, says_then}
 use Rattle.pd_protocol.proofs.Known.{appends_none}
-use Rattle.pd_cli.specs.ExplanationBlocks.{MayExplainScript, is_explained}
+use Rattle.pd_cli.specs.ExplanationBlocks.{MayExplainScript, is_selected_or_none_selected}
 use Rattle.pd_cli.specs.Program.{Runs, status_of, stderr_of, Finishes}
 use Rattle.pd_cli.specs.StepLines.{FinishedJob, AreNumbered, step_line, step_lines}
 use Rattle.pd_cli.specs.Observed.{ObservesAll, WritesMore}
@@ -40,7 +40,7 @@ any_name : (only : List (Bor (List ℕ))) (name : List ℕ) → list_any (λ (ea
 any_name [] name = refl
 any_name (each ∷ only) name = ap (λ (b : Bool). bytes_eq each.now name || b) (any_name only name)
 
-pub looked_among : (only : List (Bor (List ℕ))) (name : List ℕ) (among : Bool) → (length only == 0) ≡ false → among ≡ list_any (λ (each : Bor (List ℕ)). bytes_eq each.now name) only → among ≡ is_explained (names_of only) name
+pub looked_among : (only : List (Bor (List ℕ))) (name : List ℕ) (among : Bool) → (length only == 0) ≡ false → among ≡ list_any (λ (each : Bor (List ℕ)). bytes_eq each.now name) only → among ≡ is_selected_or_none_selected (names_of only) name
 looked_among only name among e h =
     let some : (length (names_of only) == 0) ≡ false = ap (λ (n : ℕ). n == 0) (length-map only (λ (each : Bor (List ℕ)). each.now)) ∙ e in
     h ∙ (any_name only name ∙ sym (ap (λ (b : Bool). b || list_any (λ (each : List ℕ). bytes_eq each name) (names_of only)) some))

@@ -12,7 +12,7 @@ use Rattle.pd_track.specs.declared.task.Task.{Task}
 use Rattle.pd_book.specs.Acts.{job as job_of, ruling, next, NamedText}
 use Rattle.pd_book.specs.History.{History, BookView, JobView, handed_task, after_act, after_start}
 use Rattle.pd_book.specs.Report.{owed}
-use Rattle.pd_book.specs.Refusals.{next_job, start_refusal, room_refusal, fault_of}
+use Rattle.pd_book.specs.Refusals.{next_job, start_refusal, history_full_fault_unless_space_for, fault_of}
 use Rattle.pd_book.specs.Turns.{after_turn, settled, settled_in, StartsAreOutstanding, TurnsSettle}
 use Rattle.pd_protocol.specs.declared.faults.ServeFault.{ServeFault}
 use Rattle.pd_protocol.specs.declared.faults.ServeFault.TheVariants.{HistoryFull, NoWorkers, Differs, BadCommand, Truncated, Read, Write, OutOfMemory}
@@ -73,12 +73,12 @@ if_ok_map (Err e) P Q f h = tt
 
 pub start_full : (history : History) → IsQuiet history → TurnsSettle history.opening history.past → book.HistoryFull ≡ fault_of (start_refusal history)
     → (task : Task) × (next_job history ≡ Some task) × (start_refusal history ≡ Some book.HistoryFull) × (0 < owed history.opening history.past)
-start_full history q law h = go (next history.past) refl (room_refusal 2 history) refl
+start_full history q law h = go (next history.past) refl (history_full_fault_unless_space_for 2 history) refl
   where
     some : (task : Task) → next_job history ≡ Some task → 0 < owed history.opening history.past
     some task n = let less = (law task q n).0 in omega (arith, less)
 
-    go : (o : Option NamedText) → next history.past ≡ o → (f : Option BookFault) → room_refusal 2 history ≡ f
+    go : (o : Option NamedText) → next history.past ≡ o → (f : Option BookFault) → history_full_fault_unless_space_for 2 history ≡ f
         → (task : Task) × (next_job history ≡ Some task) × (start_refusal history ≡ Some book.HistoryFull) × (0 < owed history.opening history.past)
     go None e f k = let none : start_refusal history ≡ None = rw e refl in let bad : book.HistoryFull ≡ book.OutOfMemory = h ∙ ap fault_of none in absurd cc
     go (Some script) e f k =

@@ -10,7 +10,7 @@ use Rattle.pd_book.specs.declared.faults.BookFault.{BookFault}
 use Rattle.pd_book.specs.declared.faults.BookFault.TheVariants as book
 use Rattle.pd_book.specs.Acts.{texts, present_text, now}
 use Rattle.pd_book.specs.Headline.{RowsAreOfWhole}
-use Rattle.pd_book.specs.Refusals.{name_refusal, line_edit_refusal, missing_refusal, value_refusal}
+use Rattle.pd_book.specs.Refusals.{refusal_if_name_bad_taken_or_too_many, line_edit_refusal, missing_refusal, refusal_if_key_unknown_or_value_bad}
 use Rattle.pd_book.specs.Report.{ReportView, IsFromScratch, scratch}
 use Rattle.pd_book.specs.History.{History, after_act}
 use Rattle.pd_protocol.specs.Commands.{InputItem, does, stops, commands}
@@ -45,12 +45,12 @@ MayAct history None None octets next = ⊥
 -- before all else
 abbrev pub MayPrint : History → Command → List ℕ → History → Type 0
 MayPrint history (Add name None) octets next = MayAct history (Some book.TooLarge) None octets next
-MayPrint history (Add name (Some text)) octets next = MayAct history (name_refusal history.past name) (Some (act.Add name text)) octets next
+MayPrint history (Add name (Some text)) octets next = MayAct history (refusal_if_name_bad_taken_or_too_many history.past name) (Some (act.Add name text)) octets next
 MayPrint history (Edit name None) octets next = MayAct history (Some book.TooLarge) None octets next
 MayPrint history (Edit name (Some edit)) octets next = MayAct history (line_edit_refusal (present_text history.past name) edit) (Some (act.Edit name edit)) octets next
 MayPrint history (Remove name) octets next = MayAct history (missing_refusal history.past name) (Some (act.Remove name)) octets next
 MayPrint history (Set key value) octets next =
-    MayAct history (value_refusal (now history.opening history.past) (key_named key) value) (option_map (λ k. act.Set k value) (key_named key)) octets next
+    MayAct history (refusal_if_key_unknown_or_value_bad (now history.opening history.past) (key_named key) value) (option_map (λ k. act.Set k value) (key_named key)) octets next
 MayPrint history Show octets next = ((report : ReportView) × IsPartOf history report × (octets ≡ rendered report)) × (next ≡ history)
 MayPrint history Settle octets next = ((report : ReportView) × IsScratchOf history report × (octets ≡ rendered report)) × (next ≡ history)
 

@@ -4,12 +4,12 @@ use Rattle.std.specs.List.{list_any}
 use Rattle.pd_cli.specs.StepLines.{FinishedJob}
 
 -- a script of this name is looked into: it is among the names, or there are none
-abbrev pub is_explained : List (List ℕ) → List ℕ → Bool
-is_explained only name = length only == 0 || list_any (λ each. bytes_eq each name) only
+abbrev pub is_selected_or_none_selected : List (List ℕ) → List ℕ → Bool
+is_selected_or_none_selected only name = length only == 0 || list_any (λ each. bytes_eq each name) only
 
 -- the block that may be written of a job: nothing where its script isn't looked into
 abbrev pub MayExplainScript : List (List ℕ) → FinishedJob → List ℕ → Type 0
-MayExplainScript only job block = is_explained only job.name ≡ false → block ≡ []
+MayExplainScript only job block = is_selected_or_none_selected only job.name ≡ false → block ≡ []
 
 -- a block for each job, one after another
 abbrev pub AreBlocks : List (List ℕ) → List FinishedJob → List ℕ → Type 0

@@ -18,7 +18,8 @@
 //!
 //! For any number of workers, what is written is what the commands accepted so far allow:
 //! `MayAnswer` (specs/Beside.antt). Without workers it is one function of the settings and the
-//! input: `output` (specs/Output.antt), the law `law_reports`.
+//! input: `output` (specs/Output.antt), the law
+//! `law_settle_reports_from_scratch`.
 //!
 //! Why it is so:
 //! - Readers, writers and the runtime are parameters. So contracts say what the whole program
@@ -47,10 +48,10 @@ mod shared_handler;
 mod verify_report;
 mod workers;
 
-pub use laws::{law_reporting, law_reports};
+pub use laws::{law_jobs_report_only_what_is_asked, law_settle_reports_from_scratch};
 pub use pd_protocol::{
-    Exit, ExplainOptions, InputStream, Options, ProgramFault, ServeFault, arguments,
-    exit_with_clap_error, exit_with_unreadable_arguments, options,
+    Exit, ExplainOptions, InputStream, Options, ProgramFault, ServeFault, arguments, options,
+    write_arguments_unreadable_and_return_exit, write_clap_error_and_return_fault_exit,
 };
 pub use program::{PROGRAM, run, run_alone};
 pub use report_text::render;

@@ -5,7 +5,7 @@ ghost use Rattle.pd_cli.specs.Steps.{RepliesTo};
 
 use crate::handler::CommandHandler;
 use crate::observer::JobObserver;
-use crate::settle::{render_book, settle_and_render_book};
+use crate::settle::{render_report_and_whether_all_pass, settle_then_render_and_whether_all_pass};
 use pd_book::{Book, BookFault, SharedEdit};
 use pd_protocol::ServeFault;
 use pd_settings::Value;
@@ -43,8 +43,8 @@ impl<L: JobObserver> CommandHandler for LocalHandler<L> {
 
     fn add(&mut self, name: Name, text: Option<Lines>) -> Result<Vec<u8>, ServeFault> {
         match text {
-            Some(text) => reply_to_result(self.alloc, self.book.add(name, text)),
-            None => reply_to_result(self.alloc, Err(BookFault::TooLarge)),
+            Some(text) => empty_reply_or_refusal_line(self.alloc, self.book.add(name, text)),
+            None => empty_reply_or_refusal_line(self.alloc, Err(BookFault::TooLarge)),
         }
     }
 
@@ -52,31 +52,34 @@ impl<L: JobObserver> CommandHandler for LocalHandler<L> {
         match edit {
             Some(edit) => {
                 let edit = SharedEdit::new(self.alloc, edit)?;
-                reply_to_result(self.alloc, self.book.edit_with_shared_edit(name, edit))
+                empty_reply_or_refusal_line(self.alloc, self.book.edit_with_shared_edit(name, edit))
             }
-            None => reply_to_result(self.alloc, Err(BookFault::TooLarge)),
+            None => empty_reply_or_refusal_line(self.alloc, Err(BookFault::TooLarge)),
         }
     }
 
     fn remove(&mut self, name: &Name) -> Result<Vec<u8>, ServeFault> {
-        reply_to_result(self.alloc, self.book.remove(name))
+        empty_reply_or_refusal_line(self.alloc, self.book.remove(name))
     }
 
     fn set(&mut self, key: &Name, value: Value) -> Result<Vec<u8>, ServeFault> {
-        reply_to_result(self.alloc, self.book.set(key.as_slice(), value))
+        empty_reply_or_refusal_line(self.alloc, self.book.set(key.as_slice(), value))
     }
 
     fn show(&mut self) -> Result<Vec<u8>, ServeFault> {
-        Ok(render_book(self.alloc, &self.book)?.0)
+        Ok(render_report_and_whether_all_pass(self.alloc, &self.book)?.0)
     }
 
     fn settle(&mut self) -> Result<(Vec<u8>, bool), ServeFault> {
-        settle_and_render_book(self.alloc, &mut self.book, &mut self.observer)
+        settle_then_render_and_whether_all_pass(self.alloc, &mut self.book, &mut self.observer)
     }
 }
 
 /// The reply to an answer of the book: nothing, or the line of a refusal.
-fn reply_to_result(alloc: Global, answer: Result<(), BookFault>) -> Result<Vec<u8>, ServeFault>
+fn empty_reply_or_refusal_line(
+    alloc: Global,
+    answer: Result<(), BookFault>,
+) -> Result<Vec<u8>, ServeFault>
     ensures reply_to_result { IfOk result (λ octets. RepliesTo answer octets.items) }
     ensures only { IfErr result (λ fault. fault ≡ ServeFault.OutOfMemory) }
 {
@@ -96,7 +99,7 @@ pub(crate) fn refusal_line(alloc: Global, fault: BookFault) -> Result<Vec<u8>, A
 {
     let mut out = Vec::new(alloc);
     out.extend_from_slice(b"refused ")?;
-    out.extend_from_slice(fault.text().as_bytes())?;
+    out.extend_from_slice(fault.number_and_name().as_bytes())?;
     out.extend_from_slice(b"\n")?;
     Ok(out)
 }

@@ -10,16 +10,16 @@ ghost use Rattle.pd_cli.specs.Grammatical.{ServesAlone};
 ghost use Rattle.pd_protocol.specs.Input.{HasCause};
 ghost use Rattle.pd_cli.specs.Program.{end_of, status_of, stderr_of, Finishes};
 
-use crate::laws::law_reports;
+use crate::laws::law_settle_reports_from_scratch;
 use crate::local_handler::LocalHandler;
 use crate::reporter::Reporter;
-use crate::serve_commands::serve_all;
+use crate::serve_commands::serve_commands_then_settle;
 use crate::workers::serve;
-use pd_book::{Book, law_headline};
+use pd_book::{Book, law_verdicts_are_of_current_runs};
 use pd_desk::OpenGate;
 use pd_protocol::{
-    Exit, FAULT_STATUS, InputStream, Options, ProgramFault, ServeFault, exit_with_clap_error,
-    exit_with_fault, options, settings_from_toml,
+    Exit, FAULT_STATUS, InputStream, Options, ProgramFault, ServeFault, options,
+    settings_from_toml, write_clap_error_and_return_fault_exit, write_fault_and_return_fault_exit,
 };
 use pd_settings::Settings;
 use std::alloc::Global;
@@ -49,7 +49,7 @@ pub fn run<H: Threads + Wait + Sync, S: AsStr, R: InputStream, W: Write, E: Writ
 {
     let chosen = match options(alloc, words) {
         Ok(options) => options,
-        Err(error) => return exit_with_clap_error(alloc, PROGRAM, &error, err),
+        Err(error) => return write_clap_error_and_return_fault_exit(alloc, PROGRAM, &error, err),
     };
     if chosen.workers == 0 {
         return run_alone(alloc, &chosen, reader, out, err);
@@ -73,18 +73,18 @@ pub fn run_alone<R: InputStream, W: Write, E: Write>(
 {
     match settings_from_toml(alloc, options.settings) {
         Ok(settings) => {
-            let (err, stderr_ok, end) = serve_and_report(
+            let (err, stderr_ok, end) = serve_input_and_report_jobs_to_err(
                 alloc, options, settings, reader, out, err,
             );
-            exit_after_serving(stderr_ok, end, err)
+            print_any_fault_and_make_exit(stderr_ok, end, err)
         }
-        Err(fault) => exit_with_fault(PROGRAM, err, fault),
+        Err(fault) => write_fault_and_return_fault_exit(PROGRAM, err, fault),
     }
 }
 
 /// Serves the input alone and reports on a writer what the options ask for. It hands the writer back, with whether all was
 /// written.
-fn serve_and_report<'a, R: InputStream, W: Write, E: Write>(
+fn serve_input_and_report_jobs_to_err<'a, R: InputStream, W: Write, E: Write>(
     alloc: Global,
     options: &Options<'_>,
     settings: Settings,
@@ -99,8 +99,8 @@ fn serve_and_report<'a, R: InputStream, W: Write, E: Write>(
     ensures served { ServesAlone result.2 settings (R.remaining reader.old) (W.contents out.old) (W.contents out.new) }
     ensures cause { HasCause result.2 (R.has_failed reader.new) (R.remaining reader.old) }
 {
-    law_headline();
-    law_reports();
+    law_verdicts_are_of_current_runs();
+    law_settle_reports_from_scratch();
     let mut at = LocalHandler {
         alloc,
         book: Book::new(alloc, options.cache, settings),
@@ -111,7 +111,7 @@ fn serve_and_report<'a, R: InputStream, W: Write, E: Write>(
             stderr_ok: true,
         },
     };
-    let end = serve_all(&mut at, reader, out);
+    let end = serve_commands_then_settle(&mut at, reader, out);
     let LocalHandler { observer, .. } = at;
     let Reporter { err, stderr_ok, .. } = observer;
     (err, stderr_ok, end)
@@ -137,14 +137,18 @@ fn run_beside_workers<H: Threads + Wait + Sync, R: InputStream, W: Write, E: Wri
     match settings_from_toml(alloc, options.settings) {
         Ok(settings) => {
             let end = serve(rt, alloc, settings, cache, workers, reader, out, &OpenGate);
-            exit_after_serving(true, end, err)
+            print_any_fault_and_make_exit(true, end, err)
         }
-        Err(fault) => exit_with_fault(PROGRAM, err, fault),
+        Err(fault) => write_fault_and_return_fault_exit(PROGRAM, err, fault),
     }
 }
 
 /// Ends a run that served its input, with whether all was written so far: says the fault of serving where there is one.
-fn exit_after_serving<E: Write>(stderr_ok: bool, end: Result<bool, ServeFault>, err: &mut E) -> Exit
+fn print_any_fault_and_make_exit<E: Write>(
+    stderr_ok: bool,
+    end: Result<bool, ServeFault>,
+    err: &mut E,
+) -> Exit
     ensures status { result.status ≡ status_of (end_of end) }
     ensures stderr { WritesMore stderr_ok result.stderr_ok (E.contents err.old) (E.contents err.new) (stderr_of (end_of end)) }
 {
@@ -153,7 +157,11 @@ fn exit_after_serving<E: Write>(stderr_ok: bool, end: Result<bool, ServeFault>, 
             status: if passed { 0 } else { 1 },
             stderr_ok,
         },
-        Err(fault) if stderr_ok => exit_with_fault(PROGRAM, err, ProgramFault::Serving(fault)),
+        Err(fault) if stderr_ok => write_fault_and_return_fault_exit(
+            PROGRAM,
+            err,
+            ProgramFault::Serving(fault),
+        ),
         Err(_) => Exit {
             status: FAULT_STATUS,
             stderr_ok: false,

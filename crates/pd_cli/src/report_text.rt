@@ -3,7 +3,7 @@ ghost use Rattle.std.specs.Prelude.{◌≡◌, ◌++◌, IfOk, OnOk};
 ghost use Rattle.pd_cli.specs.Report.{rendered, row_line, totals, totals_line, is_of, number};
 
 use pd_book::{Report, Row};
-use pd_protocol::{put_verdict, put_word_and_number};
+use pd_protocol::{put_prefix_and_number, put_verdict};
 use pd_run::Verdict;
 use std::alloc::{AllocError, Global};
 
@@ -27,14 +27,14 @@ pub fn render(alloc: Global, report: &Report) -> Result<Vec<u8>, AllocError>
         .saturating_add(TOTALS_ROOM);
     let mut out = Vec::with_capacity(alloc, room)?;
     for row in report.rows() {
-        put_row(&mut out, row)?;
+        put_name_and_verdict_line(&mut out, row)?;
     }
     Totals::of_rows(report.rows()).put_line(&mut out)?;
     Ok(out)
 }
 
 /// Adds the line of a row.
-fn put_row(out: &mut Vec<u8>, row: &Row) -> Result<(), AllocError>
+fn put_name_and_verdict_line(out: &mut Vec<u8>, row: &Row) -> Result<(), AllocError>
     ensures { OnOk result (out.new.items ≡ out.old.items ++ row_line row.now) }
 {
     out.extend_from_slice(row.name.as_slice())?;
@@ -125,13 +125,13 @@ impl Totals {
     fn put_line(self, out: &mut Vec<u8>) -> Result<(), AllocError>
         ensures { OnOk result (out.new.items ≡ out.old.items ++ totals_line self) }
     {
-        put_word_and_number(out, b"total ", self.total)?;
-        put_word_and_number(out, b" pass ", self.pass)?;
-        put_word_and_number(out, b" fail ", self.fail)?;
-        put_word_and_number(out, b" syntax ", self.syntax)?;
-        put_word_and_number(out, b" unsupported ", self.unsupported)?;
-        put_word_and_number(out, b" limit ", self.limit)?;
-        put_word_and_number(out, b" pending ", self.pending)?;
+        put_prefix_and_number(out, b"total ", self.total)?;
+        put_prefix_and_number(out, b" pass ", self.pass)?;
+        put_prefix_and_number(out, b" fail ", self.fail)?;
+        put_prefix_and_number(out, b" syntax ", self.syntax)?;
+        put_prefix_and_number(out, b" unsupported ", self.unsupported)?;
+        put_prefix_and_number(out, b" limit ", self.limit)?;
+        put_prefix_and_number(out, b" pending ", self.pending)?;
         out.extend_from_slice(b"\n")
     }
 }

@@ -4,7 +4,7 @@ ghost use Rattle.pd_protocol.specs.ChosenOptions.{report_options_of};
 ghost use Rattle.pd_cli.specs.StepLines.{FinishedJob, step_line};
 ghost use Rattle.pd_cli.specs.Reported.{MayReport};
 
-use crate::explanations::explanation_or_leftovers;
+use crate::explanations::explanation_or_leftovers_if_asked;
 use crate::observer::JobObserver;
 use pd_book::Done;
 use pd_protocol::{Options, try_write};
@@ -35,7 +35,7 @@ impl<'a, 'b, E: Write> JobObserver for Reporter<'a, 'b, E> {
 
     fn on_job_finished(&mut self, done: &Done, steps: u64) -> Result<(), AllocError> {
         if self.stderr_ok {
-            let lines = report_of(self.alloc, self.options, done, steps)?;
+            let lines = steps_line_and_explanation_if_asked(self.alloc, self.options, done, steps)?;
             self.stderr_ok = try_write(self.err, lines.as_slice());
         }
         Ok(())
@@ -43,7 +43,7 @@ impl<'a, 'b, E: Write> JobObserver for Reporter<'a, 'b, E> {
 }
 
 /// The report of a job: its line of steps where these are asked for, then its block where explanations are.
-fn report_of(
+fn steps_line_and_explanation_if_asked(
     alloc: Global,
     options: &Options<'_>,
     done: &Done,
@@ -53,17 +53,17 @@ fn report_of(
 {
     let mut lines = Vec::new(alloc);
     if options.steps {
-        put_step_line(alloc, &mut lines, done.number(), done.name(), steps)?;
+        put_job_step_count_line(alloc, &mut lines, done.number(), done.name(), steps)?;
     }
     if let Some(explain_options) = &options.explain {
-        let block = explanation_or_leftovers(alloc, explain_options, done)?;
+        let block = explanation_or_leftovers_if_asked(alloc, explain_options, done)?;
         lines.extend_from_slice(block.as_slice())?;
     }
     Ok(lines)
 }
 
 /// Adds the line of a job that was finished.
-fn put_step_line(
+fn put_job_step_count_line(
     alloc: Global,
     out: &mut Vec<u8>,
     number: u64,

@@ -7,13 +7,15 @@ ghost use Rattle.pd_cli.specs.Grammatical.{ServesAlone};
 ghost use Rattle.pd_cli.specs.Sessions.{ServesBy, ReadsBy, HasAnswered, DoesBy, SettlesBy};
 
 use crate::handler::CommandHandler;
-use crate::laws::law_reports;
+use crate::laws::law_settle_reports_from_scratch;
 use crate::local_handler::LocalHandler;
 use crate::observer::NoObserver;
 use crate::shared_handler::SharedHandler;
-use pd_book::{Book, law_headline};
+use pd_book::{Book, law_verdicts_are_of_current_runs};
 use pd_desk::Desk;
-use pd_protocol::{Command, InputStream, LineReader, ServeFault, next_command, write_all};
+use pd_protocol::{
+    Command, InputStream, LineReader, ServeFault, next_command, write_all_without_flush,
+};
 use pd_seat::Seat;
 use pd_settings::Settings;
 use std::alloc::Global;
@@ -40,14 +42,14 @@ pub fn serve_alone<R: InputStream, W: Write>(
     ensures serves { ServesAlone result settings (R.remaining reader.old) (W.contents writer.old) (W.contents writer.new) }
     ensures cause { HasCause result (R.has_failed reader.new) (R.remaining reader.old) }
 {
-    law_headline();
-    law_reports();
+    law_verdicts_are_of_current_runs();
+    law_settle_reports_from_scratch();
     let mut at = LocalHandler {
         alloc,
         book: Book::new(alloc, cache, settings),
         observer: NoObserver,
     };
-    serve_all(&mut at, reader, writer)
+    serve_commands_then_settle(&mut at, reader, writer)
 }
 
 /// Serves the commands of a reader, to its end, at a seat of a new desk that was opened with these settings. A `settle`
@@ -72,7 +74,7 @@ pub fn serve_seat<H: Wait, R: InputStream, W: Write>(
     ensures serves { ServesBeside result settings (R.remaining reader.old) (W.contents writer.old) (W.contents writer.new) }
     ensures cause { HasCause result (R.has_failed reader.new) (R.remaining reader.old) }
 {
-    law_headline();
+    law_verdicts_are_of_current_runs();
     let mut at = SharedHandler {
         rt,
         alloc,
@@ -80,14 +82,14 @@ pub fn serve_seat<H: Wait, R: InputStream, W: Write>(
         seat,
         own: Book::new(alloc, 1, settings),
     };
-    serve_all(&mut at, reader, writer)
+    serve_commands_then_settle(&mut at, reader, writer)
 }
 
 /// Serves to the end of the input: takes a command, asks for its reply, writes it.
 ///
 /// # Errors
 /// The fault of the input, the handler or the writer. The octets that were written before it stay.
-pub(crate) fn serve_all<A: CommandHandler, R: InputStream, W: Write>(
+pub(crate) fn serve_commands_then_settle<A: CommandHandler, R: InputStream, W: Write>(
     handler: &mut A,
     reader: &mut R,
     writer: &mut W,
@@ -101,14 +103,14 @@ pub(crate) fn serve_all<A: CommandHandler, R: InputStream, W: Write>(
     let mut line_reader = LineReader::new(alloc);
     loop {
         match next_command(alloc, &mut line_reader, reader)? {
-            Some(command) => serve_command(handler, command, writer)?,
-            None => return settle_at_end_of_input(handler, writer),
+            Some(command) => execute_command_and_write_reply(handler, command, writer)?,
+            None => return settle_and_write_last_report(handler, writer),
         }
     }
 }
 
 /// Does one command and writes what it prints.
-fn serve_command<A: CommandHandler, W: Write>(
+fn execute_command_and_write_reply<A: CommandHandler, W: Write>(
     handler: &mut A,
     command: Command,
     writer: &mut W,
@@ -118,12 +120,12 @@ fn serve_command<A: CommandHandler, W: Write>(
         (octets : List ℕ) × Appends before (W.contents writer.new) octets × DoesBy A.prints A.fails result handler.old command handler.new octets }
     ensures ready { OnOk result (A.is_ready handler.new) }
 {
-    let reply = reply_to(handler, command)?;
-    write_all(writer, reply.as_slice())
+    let reply = execute_command_and_return_reply(handler, command)?;
+    write_all_without_flush(writer, reply.as_slice())
 }
 
 /// Settles at the end of the input, and writes the last report.
-fn settle_at_end_of_input<A: CommandHandler, W: Write>(
+fn settle_and_write_last_report<A: CommandHandler, W: Write>(
     handler: &mut A,
     writer: &mut W,
 ) -> Result<bool, ServeFault>
@@ -132,12 +134,15 @@ fn settle_at_end_of_input<A: CommandHandler, W: Write>(
         (octets : List ℕ) × Appends before (W.contents writer.new) octets × SettlesBy A.prints A.fails A.passes result handler.old handler.new octets }
 {
     let (octets, passed) = handler.settle()?;
-    write_all(writer, octets.as_slice())?;
+    write_all_without_flush(writer, octets.as_slice())?;
     Ok(passed)
 }
 
 /// Does one command, and gives what it prints.
-fn reply_to<A: CommandHandler>(handler: &mut A, command: Command) -> Result<Vec<u8>, ServeFault>
+fn execute_command_and_return_reply<A: CommandHandler>(
+    handler: &mut A,
+    command: Command,
+) -> Result<Vec<u8>, ServeFault>
     requires { A.is_ready handler.old }
     ensures printed { IfOk result (λ reply. A.prints handler.old command reply.items handler.new) }
     ensures ready { IfOk result (λ _. A.is_ready handler.new) }

@@ -8,23 +8,23 @@ ghost use Rattle.pd_cli.specs.Observed.{ObservesTurn, ObservesSettling, Observes
 
 use crate::observer::JobObserver;
 use crate::report_text::{RowKind, render};
-use pd_book::{Book, BookFault, Report, law_settling, run_job};
+use pd_book::{Book, BookFault, Report, law_settling_ends_with_none_pending, run_job};
 use pd_protocol::{Command, ServeFault};
 use pd_run::{Plain, Stepper};
 use std::alloc::{AllocError, Global};
 
 /// The book's laws of settling it; the function does nothing.
-fn law_at_rest(book: &Book)
+fn law_settling_holds_for_book(book: &Book)
     requires { IsQuiet book.now.history }
     ensures turns { TurnsSettle book.now.history.opening book.now.history.past }
     ensures starts { StartsAreOutstanding book.now.history }
 {
     book.law_invariant();
-    law_settling();
+    law_settling_ends_with_none_pending();
 }
 
 /// Starts and finishes one job, and gives it to an observer; false says that nothing is owed.
-fn run_next_job<L: JobObserver>(
+fn run_finish_observe_next_job_if_any<L: JobObserver>(
     alloc: Global,
     book: &mut Book,
     observer: &mut L,
@@ -33,7 +33,7 @@ fn run_next_job<L: JobObserver>(
     ensures turns { Turns result book.old.history book.new.history }
     ensures observed { ObservesTurn L.observes result book.old.history observer.old observer.new }
 {
-    law_at_rest(book);
+    law_settling_holds_for_book(book);
     let job = match book.start() {
         Ok(Some(job)) => job,
         Ok(None) => return Ok(false),
@@ -62,7 +62,7 @@ fn settle<L: JobObserver>(
     ensures quiet { OnOk result (IsQuiet book.new.history) }
     ensures observed { ObservesSettling L.observes result book.old.history book.new.history observer.old observer.new }
 {
-    while run_next_job(alloc, book, observer)? {}
+    while run_finish_observe_next_job_if_any(alloc, book, observer)? {}
     Ok(())
 }
 
@@ -70,7 +70,10 @@ fn settle<L: JobObserver>(
 ///
 /// # Errors
 /// `AllocError` where a growth is refused.
-pub fn render_book(alloc: Global, book: &Book) -> Result<(Vec<u8>, bool), AllocError>
+pub fn render_report_and_whether_all_pass(
+    alloc: Global,
+    book: &Book,
+) -> Result<(Vec<u8>, bool), AllocError>
     ensures octets { IfOk result (λ shown. shown.0.items ≡ rendered (report book.now.history)) }
     ensures passed { IfOk result (λ shown. shown.1 ≡ all_pass (report book.now.history)) }
 {
@@ -84,7 +87,7 @@ pub fn render_book(alloc: Global, book: &Book) -> Result<(Vec<u8>, bool), AllocE
 /// # Errors
 /// `HistoryFull` where the history has no room for a start; `OutOfMemory` where a start, a job, the observer or the report
 /// finds no memory.
-pub fn settle_and_render_book<L: JobObserver>(
+pub fn settle_then_render_and_whether_all_pass<L: JobObserver>(
     alloc: Global,
     book: &mut Book,
     observer: &mut L,
@@ -97,7 +100,7 @@ pub fn settle_and_render_book<L: JobObserver>(
     ensures observed { ObservesNumbered L.observes result book.old.history book.new.history observer.old observer.new }
 {
     settle(alloc, book, observer)?;
-    Ok(render_book(alloc, book)?)
+    Ok(render_report_and_whether_all_pass(alloc, book)?)
 }
 
 /// Whether each row of a report passes.

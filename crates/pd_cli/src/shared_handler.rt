@@ -10,7 +10,7 @@ use crate::handler::CommandHandler;
 use crate::local_handler::refusal_line;
 use crate::report_text::render;
 use crate::settle::all_pass;
-use crate::verify_report::check_against_own_copy;
+use crate::verify_report::check_report_matches_own_book;
 use pd_book::{Act, Book, BookFault, SharedEdit};
 use pd_desk::Desk;
 use pd_protocol::{Command, ServeFault};
@@ -58,10 +58,14 @@ impl<'a, H: Wait> CommandHandler for SharedHandler<'a, H> {
         };
         match self.desk.add(self.rt, self.seat, name.share()?, text) {
             Ok(()) => {
-                let text = last_added_text(self.seat)?;
-                reply_to_accepted_act(self.alloc, self.own.add_with_shared_text(name, text))
+                let text = last_added_text_or_fault(self.seat)?;
+                empty_reply_if_own_result_ok(self.alloc, self.own.add_with_shared_text(name, text))
             }
-            Err(fault) => reply_to_refused_act(self.alloc, fault, self.own.name_refusal(&name)),
+            Err(fault) => refusal_line_if_own_copy_agrees(
+                self.alloc,
+                fault,
+                self.own.refusal_if_name_bad_taken_or_too_many(&name),
+            ),
         }
     }
 
@@ -71,10 +75,13 @@ impl<'a, H: Wait> CommandHandler for SharedHandler<'a, H> {
         };
         match self.desk.edit(self.rt, self.seat, name, &edit) {
             Ok(()) => {
-                let (name, edit) = last_edit(self.seat)?;
-                reply_to_accepted_act(self.alloc, self.own.edit_with_shared_edit(&name, edit))
+                let (name, edit) = last_edit_with_name_or_fault(self.seat)?;
+                empty_reply_if_own_result_ok(
+                    self.alloc,
+                    self.own.edit_with_shared_edit(&name, edit),
+                )
             }
-            Err(fault) => reply_to_refused_act(
+            Err(fault) => refusal_line_if_own_copy_agrees(
                 self.alloc,
                 fault,
                 self.own.line_edit_refusal(name, &edit),
@@ -84,19 +91,23 @@ impl<'a, H: Wait> CommandHandler for SharedHandler<'a, H> {
 
     fn remove(&mut self, name: &Name) -> Result<Vec<u8>, ServeFault> {
         match self.desk.remove(self.rt, self.seat, name) {
-            Ok(()) => reply_to_accepted_act(self.alloc, self.own.remove(name)),
-            Err(fault) => reply_to_refused_act(self.alloc, fault, self.own.missing_refusal(name)),
+            Ok(()) => empty_reply_if_own_result_ok(self.alloc, self.own.remove(name)),
+            Err(fault) => refusal_line_if_own_copy_agrees(
+                self.alloc,
+                fault,
+                self.own.missing_refusal(name),
+            ),
         }
     }
 
     fn set(&mut self, key: &Name, value: Value) -> Result<Vec<u8>, ServeFault> {
         let key = key.as_slice();
         match self.desk.set(self.rt, self.seat, key, value) {
-            Ok(()) => reply_to_accepted_act(self.alloc, self.own.set(key, value)),
-            Err(fault) => reply_to_refused_act(
+            Ok(()) => empty_reply_if_own_result_ok(self.alloc, self.own.set(key, value)),
+            Err(fault) => refusal_line_if_own_copy_agrees(
                 self.alloc,
                 fault,
-                self.own.value_refusal(key, value),
+                self.own.refusal_if_key_unknown_or_value_bad(key, value),
             ),
         }
     }
@@ -106,7 +117,7 @@ impl<'a, H: Wait> CommandHandler for SharedHandler<'a, H> {
             .desk
             .show(self.rt, self.seat)
             .map_err(serve_fault_of_show)?;
-        check_against_own_copy(&self.own, &report)?;
+        check_report_matches_own_book(&self.own, &report)?;
         Ok(render(self.alloc, &report)?)
     }
 
@@ -115,14 +126,14 @@ impl<'a, H: Wait> CommandHandler for SharedHandler<'a, H> {
             .desk
             .settle(self.rt, self.seat)
             .map_err(serve_fault_of_desk)?;
-        check_against_own_copy(&self.own, &report)?;
+        check_report_matches_own_book(&self.own, &report)?;
         let octets = render(self.alloc, &report)?;
         Ok((octets, all_pass(&report)))
     }
 }
 
 /// The text of the seat's last act, an add.
-fn last_added_text(seat: &Seat) -> Result<Text, ServeFault>
+fn last_added_text_or_fault(seat: &Seat) -> Result<Text, ServeFault>
     ensures text { (name : List ℕ) → (text : List (List ℕ)) → (older : List Act) → seat.now.own ≡ Act.Add name text ∷ older → IfOk result (λ own. own ≡ text) }
     ensures only { (command : Command) → IfErr result (λ fault. FailsBeside fault command) }
 {
@@ -133,7 +144,7 @@ fn last_added_text(seat: &Seat) -> Result<Text, ServeFault>
 }
 
 /// The name and the edit of the seat's last act, an edit.
-fn last_edit(seat: &Seat) -> Result<(Name, SharedEdit), ServeFault>
+fn last_edit_with_name_or_fault(seat: &Seat) -> Result<(Name, SharedEdit), ServeFault>
     ensures edit { (name : List ℕ) → (edit : LineEdit) → (older : List Act) → seat.now.own ≡ Act.Edit name edit ∷ older → IfOk result (λ own. (own.0 ≡ name) × (own.1 ≡ edit)) }
     ensures only { (command : Command) → IfErr result (λ fault. FailsBeside fault command) }
 {
@@ -144,7 +155,10 @@ fn last_edit(seat: &Seat) -> Result<(Name, SharedEdit), ServeFault>
 }
 
 /// The reply to an act that the desk accepted: nothing, where the own copy accepts it too.
-fn reply_to_accepted_act(alloc: Global, own: Result<(), BookFault>) -> Result<Vec<u8>, ServeFault>
+fn empty_reply_if_own_result_ok(
+    alloc: Global,
+    own: Result<(), BookFault>,
+) -> Result<Vec<u8>, ServeFault>
     ensures none { IfOk result (λ octets. octets.items ≡ []) }
     ensures too { IfOk result (λ _. IsOk own) }
     ensures only { (command : Command) → IfErr result (λ fault. FailsBeside fault command) }
@@ -158,7 +172,7 @@ fn reply_to_accepted_act(alloc: Global, own: Result<(), BookFault>) -> Result<Ve
 
 /// The line of an act that the desk refused, where the own copy refuses it for the same reason, or the history of the desk
 /// is full and the own copy has no reason.
-fn reply_to_refused_act(
+fn refusal_line_if_own_copy_agrees(
     alloc: Global,
     fault: BookFault,
     own: Option<BookFault>,

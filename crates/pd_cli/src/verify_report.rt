@@ -5,20 +5,20 @@ ghost use Rattle.pd_desk.specs.Desk.{IsCurrent};
 ghost use Rattle.pd_cli.specs.Beside.{from_scratch, IsScratchOf, IsPartOf};
 ghost use Rattle.pd_cli.specs.BesideSteps.{scripts_of, IsOfSame, FailsBeside};
 
-use pd_book::{Book, Report, Row, law_headline};
+use pd_book::{Book, Report, Row, law_verdicts_are_of_current_runs};
 use pd_protocol::{Command, ServeFault};
 
 /// Compares a report with the own copy.
 ///
 /// # Errors
 /// `Differs` where the settings, the names or the texts do.
-pub(crate) fn check_against_own_copy(own: &Book, report: &Report) -> Result<(), ServeFault>
+pub(crate) fn check_report_matches_own_book(own: &Book, report: &Report) -> Result<(), ServeFault>
     ensures part { OnOk result (IsPartOf own.now.history report.now) }
     ensures whole { OnOk result (IsCurrent report.now → report.now ≡ from_scratch own.now.history) }
     ensures scratch { OnOk result (IsCurrent report.now → IsScratchOf own.now.history report.now) }
     ensures only { (command : Command) → IfErr result (λ fault. FailsBeside fault command) }
 {
-    law_headline();
+    law_verdicts_are_of_current_runs();
     let kept = own.show()?;
     if has_same_scripts_and_settings(report, &kept) {
         Ok(())

@@ -49,13 +49,15 @@ pub fn serve<H: Threads + Wait + Sync, R: InputStream, W: Write, G: Gate + Sync>
         reader: &mut *reader,
         writer: &mut *writer,
     };
-    let (reader, writer, answer) = run_task_beside_workers(rt, alloc, &desk, gate, seats, task);
-    law_returned(reader, writer);
+    let (reader, writer, answer) = run_task_beside_workers_then_shut_desk(
+        rt, alloc, &desk, gate, seats, task,
+    );
+    law_returned_references_are_lent(reader, writer);
     answer
 }
 
 /// Does nothing: its use ties references that come back to those that were lent.
-fn law_returned<R, W>(reader: &mut R, writer: &mut W)
+fn law_returned_references_are_lent<R, W>(reader: &mut R, writer: &mut W)
     ensures { (reader.new ≡ reader.old) × (writer.new ≡ writer.old) }
 {}
 
@@ -70,7 +72,7 @@ trait ScopedTask {
         ensures { gives self result };
 
     /// Where no thread can be started, in its place.
-    fn on_spawn_error(self) -> Self::Output
+    fn output_on_spawn_failure(self) -> Self::Output
         ensures { gives self result };
 }
 
@@ -116,14 +118,14 @@ impl<'a, H: Wait, R: InputStream, W: Write> ScopedTask for SeatServing<'a, H, R,
         (reader, writer, answer)
     }
 
-    fn on_spawn_error(self) -> (&'a mut R, &'a mut W, Result<bool, ServeFault>) {
+    fn output_on_spawn_failure(self) -> (&'a mut R, &'a mut W, Result<bool, ServeFault>) {
         let SeatServing { reader, writer, .. } = self;
         (reader, writer, Err(ServeFault::OutOfMemory))
     }
 }
 
 /// Runs a task beside the workers of a desk, then shuts the desk and lets them leave.
-fn run_task_beside_workers<
+fn run_task_beside_workers_then_shut_desk<
     'x,
     H: Threads + Wait + Sync,
     G: Gate + Sync,
@@ -140,7 +142,7 @@ fn run_task_beside_workers<
         {
             let work = move || run_workers_at_seats(rt, alloc, desk, gate, workers);
             if scope.spawn(work).is_err() {
-                return task.on_spawn_error();
+                return task.output_on_spawn_failure();
             }
             let answer = task.run();
             desk.shut(rt);

@@ -107,7 +107,7 @@ impl Desk {
     {
         let mut locked = self.locked.lock(rt);
         let reply = locked.held.remove(seat, name);
-        let evicted = locked.held.take_evicted();
+        let evicted = locked.held.take_evicted_track_if_any();
         drop(locked);
         self.changed.notify_all();
         drop(evicted);
@@ -165,12 +165,12 @@ impl Desk {
         ensures room { is_unended seat.old.own done.now.number ≡ true → result ≢ Err FinishFault.OutOfMemory }
         ensures refuses { OnErr result (seat.new ≡ seat.old) }
     {
-        let (reply, _) = self.finish_and_check_seat(rt, seat, done);
+        let (reply, _) = self.finish_and_whether_seat_agrees(rt, seat, done);
         reply
     }
 
     /// Takes the result of an outstanding job; and whether the history agrees with the seat, as `Locked::finish` does.
-    pub(crate) fn finish_and_check_seat<R: Wait>(
+    pub(crate) fn finish_and_whether_seat_agrees<R: Wait>(
         &self,
         rt: &R,
         seat: &mut Seat,
@@ -183,9 +183,9 @@ impl Desk {
         ensures refuses { OnErr result.0 (seat.new ≡ seat.old) }
     {
         let mut locked = self.locked.lock(rt);
-        let ended = locked.finish_and_check_seat(seat, done);
-        let evicted = locked.held.take_evicted();
-        let is_verdict_awaited = locked.is_verdict_awaited();
+        let ended = locked.finish_and_whether_seat_agrees(seat, done);
+        let evicted = locked.held.take_evicted_track_if_any();
+        let is_verdict_awaited = locked.has_owed_verdict_and_remaining_worker();
         drop(locked);
         if !is_verdict_awaited {
             self.changed.notify_all();
@@ -204,12 +204,12 @@ impl Desk {
         ensures room { is_unended seat.old.own number ≡ true → result ≢ Err FinishFault.OutOfMemory }
         ensures refuses { OnErr result (seat.new ≡ seat.old) }
     {
-        let (reply, _) = self.abandon_and_check_seat(rt, seat, number);
+        let (reply, _) = self.abandon_and_whether_seat_agrees(rt, seat, number);
         reply
     }
 
     /// Gives up an outstanding job; and whether the history agrees with the seat, as `Locked::finish` does.
-    pub(crate) fn abandon_and_check_seat<R: Wait>(
+    pub(crate) fn abandon_and_whether_seat_agrees<R: Wait>(
         &self,
         rt: &R,
         seat: &mut Seat,
@@ -221,7 +221,10 @@ impl Desk {
         ensures room { is_unended seat.old.own number ≡ true → result.0 ≢ Err FinishFault.OutOfMemory }
         ensures refuses { OnErr result.0 (seat.new ≡ seat.old) }
     {
-        let ended = self.locked.lock(rt).abandon_and_check_seat(seat, number);
+        let ended = self
+            .locked
+            .lock(rt)
+            .abandon_and_whether_seat_agrees(seat, number);
         self.changed.notify_all();
         ended
     }

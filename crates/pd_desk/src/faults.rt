@@ -23,14 +23,14 @@ pub enum DeskFault {
 
 impl DeskFault {
     /// Its number and its name, as they are printed.
-    pub fn text(self) -> &'static str
+    pub fn number_and_name(self) -> &'static str
         ensures { result.now ≡ desk_fault_text self }
     {
         match self {
-            DeskFault::HistoryFull => BookFault::HistoryFull.text(),
+            DeskFault::HistoryFull => BookFault::HistoryFull.number_and_name(),
             DeskFault::NoWorkers => "12 NoWorkers",
-            DeskFault::Differs => ShowFault::Differs.text(),
-            DeskFault::OutOfMemory => ShowFault::OutOfMemory.text(),
+            DeskFault::Differs => ShowFault::Differs.number_and_name(),
+            DeskFault::OutOfMemory => ShowFault::OutOfMemory.number_and_name(),
         }
     }
 }
@@ -42,7 +42,7 @@ impl fmt::Display for DeskFault {
     ghost output = { λ fault. Some (desk_fault_text fault) };
 
     fn fmt<W: fmt::Write>(&self, f: &mut fmt::Formatter<W>) -> fmt::Result {
-        f.write_str(self.text())
+        f.write_str(self.number_and_name())
     }
 }
 

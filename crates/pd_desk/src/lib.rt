@@ -47,4 +47,4 @@ mod worker_counts;
 pub use desk::Desk;
 pub use faults::DeskFault;
 pub use gate::{Gate, OpenGate};
-pub use laws::law_others_end_jobs;
+pub use laws::law_refused_end_was_by_another_seat;

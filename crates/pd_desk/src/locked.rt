@@ -22,14 +22,14 @@ pub struct Locked {
 
 impl Locked {
     /// Whether a verdict is owed that a worker may still give.
-    pub fn is_verdict_awaited(&self) -> bool
+    pub fn has_owed_verdict_and_remaining_worker(&self) -> bool
         ensures { IsTrue result ↔ ((self.now.worker_counts.left < self.now.worker_counts.size) × (0 < owed self.now.held.book.history.opening self.now.held.book.history.past)) }
     {
         self.worker_counts.has_remaining_worker() && self.held.owed() > 0
     }
 
     /// Whether workers have nothing to do but to wait.
-    pub fn are_workers_idle(&self) -> bool
+    pub fn must_workers_wait_for_script(&self) -> bool
         ensures { IsTrue result ↔ ((self.now.worker_counts.is_shut ≡ false) × (is_some (next self.now.held.book.history.past) ≡ false)) }
     {
         !self.worker_counts.is_shut() && !self.held.has_waiting_script()
@@ -37,7 +37,7 @@ impl Locked {
 
     /// Takes the result of an outstanding job; and whether the history agrees with the seat, which is looked at only where
     /// the finish is refused.
-    pub fn finish_and_check_seat(
+    pub fn finish_and_whether_seat_agrees(
         &mut self,
         seat: &mut Seat,
         done: &Done,
@@ -54,7 +54,7 @@ impl Locked {
     }
 
     /// Gives up an outstanding job; and whether the history agrees with the seat, as `finish` does.
-    pub fn abandon_and_check_seat(
+    pub fn abandon_and_whether_seat_agrees(
         &mut self,
         seat: &mut Seat,
         number: u64,

@@ -59,7 +59,7 @@ impl Desk {
     ) -> Result<(), DeskFault> {
         let count = seats.len();
         let Ok(mut workers) = Vec::with_capacity(alloc, count) else {
-            return self.count_all_unstarted(rt, count);
+            return self.note_unstarted_workers_and_return_error(rt, count);
         };
         let each = seats.iter_mut();
         for seat in each {
@@ -71,24 +71,28 @@ impl Desk {
                 seat,
             };
             if workers.push(worker).is_err() {
-                return self.count_all_unstarted(rt, count);
+                return self.note_unstarted_workers_and_return_error(rt, count);
             }
         }
-        self.run_all_in_threads(rt, alloc, workers)
+        self.run_threads_and_return_first_fault(rt, alloc, workers)
     }
 
     /// Counts so many workers as ones that can't be started.
-    fn count_all_unstarted<R: Wait>(&self, rt: &R, count: usize) -> Result<(), DeskFault> {
+    fn note_unstarted_workers_and_return_error<R: Wait>(
+        &self,
+        rt: &R,
+        count: usize,
+    ) -> Result<(), DeskFault> {
         for _ in 0..count {
-            self.count_unstarted(rt);
+            self.note_unstarted_worker_as_left(rt);
         }
         Err(DeskFault::OutOfMemory)
     }
 
     /// Counts a worker that can't be started as one that left.
-    fn count_unstarted<R: Wait>(&self, rt: &R) {
+    fn note_unstarted_worker_as_left<R: Wait>(&self, rt: &R) {
         let mut locked = self.locked.lock(rt);
-        if locked.worker_counts.try_enter() {
+        if locked.worker_counts.enter_unless_all_entered() {
             locked.worker_counts.leave();
         }
         drop(locked);
@@ -96,7 +100,7 @@ impl Desk {
     }
 
     /// Runs each task in a thread of its own, and gives the first fault in their order.
-    fn run_all_in_threads<R: Threads + Wait, T: ThreadTask + Send + Drop>(
+    fn run_threads_and_return_first_fault<R: Threads + Wait, T: ThreadTask + Send + Drop>(
         &self,
         rt: &R,
         alloc: Global,
@@ -105,12 +109,12 @@ impl Desk {
         let count = tasks.len();
         thread::scope(thread::scope_env(), rt, |scope| {
             let Ok(mut handles) = Vec::with_capacity(alloc, count) else {
-                return self.count_all_unstarted(rt, count);
+                return self.note_unstarted_workers_and_return_error(rt, count);
             };
             for task in tasks {
                 let started = scope.spawn(move || task.run());
                 if started.is_err() {
-                    self.count_unstarted(rt);
+                    self.note_unstarted_worker_as_left(rt);
                 }
                 // The list was made with room for all of them.
                 let _ = handles.push(started.ok());

@@ -8,7 +8,9 @@ ghost use Rattle.pd_desk.specs.Internal.{IsWant, EndsJob, LeavesJob, GivesUp};
 use crate::desk::Desk;
 use crate::faults::DeskFault;
 use crate::gate::Gate;
-use pd_book::{Act, BookFault, Done, Job, MAX_ACTS, Report, law_headline, run_job};
+use pd_book::{
+    Act, BookFault, Done, Job, MAX_ACTS, Report, law_verdicts_are_of_current_runs, run_job,
+};
 use pd_run::Stepper;
 use pd_seat::Seat;
 use std::alloc::Global;
@@ -28,12 +30,12 @@ impl Desk {
         let locked = self.changed.wait_while(
             rt,
             self.locked.lock(rt),
-            |locked| locked.is_verdict_awaited(),
+            |locked| locked.has_owed_verdict_and_remaining_worker(),
         );
         if locked.held.owed() > 0 {
             return Err(DeskFault::NoWorkers);
         }
-        law_headline();
+        law_verdicts_are_of_current_runs();
         Ok(locked.held.show(seat)?)
     }
 
@@ -62,17 +64,22 @@ impl Desk {
         requires room { S.counted stepper.old + 2 ^ 28 < 2 ^ 64 }
         ensures { Works seat.old result seat.new }
     {
-        if !self.locked.lock(rt).worker_counts.try_enter() {
+        if !self
+            .locked
+            .lock(rt)
+            .worker_counts
+            .enter_unless_all_entered()
+        {
             return Err(DeskFault::NoWorkers);
         }
-        let left = self.run_jobs(rt, alloc, seat, stepper, gate);
+        let left = self.run_jobs_until_shut(rt, alloc, seat, stepper, gate);
         self.locked.lock(rt).worker_counts.leave();
         self.changed.notify_all();
         left
     }
 
     /// Runs jobs until the desk is shut, at most as many as a history has acts.
-    fn run_jobs<R: Wait, G: Gate, S: Stepper>(
+    fn run_jobs_until_shut<R: Wait, G: Gate, S: Stepper>(
         &self,
         rt: &R,
         alloc: Global,
@@ -85,16 +92,20 @@ impl Desk {
         ensures entered { result ≢ Err DeskFault.NoWorkers }
     {
         for _ in 0..MAX_ACTS {
-            let Some(job) = self.wait_and_start_job(rt, seat)? else {
+            let Some(job) = self.wait_and_start_job_unless_shut(rt, seat)? else {
                 return Ok(());
             };
-            self.run_and_end_job(rt, alloc, seat, job, stepper, gate)?;
+            self.run_and_finish_or_abandon_job(rt, alloc, seat, job, stepper, gate)?;
         }
         Err(DeskFault::HistoryFull)
     }
 
     /// Waits for a job and starts it; `None` where the desk is shut.
-    fn wait_and_start_job<R: Wait>(&self, rt: &R, seat: &mut Seat) -> Result<Option<Job>, DeskFault>
+    fn wait_and_start_job_unless_shut<R: Wait>(
+        &self,
+        rt: &R,
+        seat: &mut Seat,
+    ) -> Result<Option<Job>, DeskFault>
         ensures records { IfOk result (λ given. IfSome given (λ job. seat.new ≡ with_act seat.old (Act.Start job.task.number job.task.name))) }
         ensures none { IfOk result (λ given. IfNone given (seat.new ≡ seat.old)) }
         ensures refuses { OnErr result (seat.new ≡ seat.old) }
@@ -103,7 +114,7 @@ impl Desk {
         let mut locked = self.changed.wait_while(
             rt,
             self.locked.lock(rt),
-            |locked| locked.are_workers_idle(),
+            |locked| locked.must_workers_wait_for_script(),
         );
         if locked.worker_counts.is_shut() {
             return Ok(None);
@@ -116,7 +127,7 @@ impl Desk {
     }
 
     /// Runs a job that was started, and ends it. Where its end is refused, somebody else has ended it.
-    fn run_and_end_job<R: Wait, G: Gate, S: Stepper>(
+    fn run_and_finish_or_abandon_job<R: Wait, G: Gate, S: Stepper>(
         &self,
         rt: &R,
         alloc: Global,
@@ -136,8 +147,8 @@ impl Desk {
         let ran = run_job(alloc, job, stepper);
         gate.after(number);
         match ran {
-            Ok(done) => self.finish_job(rt, seat, &done),
-            Err(_) => Err(self.abandon_job(rt, seat, number)),
+            Ok(done) => self.finish_and_fail_if_history_disagrees(rt, seat, &done),
+            Err(_) => Err(self.abandon_job_and_return_why_worker_leaves(rt, seat, number)),
         }
     }
 
@@ -145,12 +156,17 @@ impl Desk {
     ///
     /// # Errors
     /// `Differs` where it is refused, after a history that disagrees with the seat.
-    fn finish_job<R: Wait>(&self, rt: &R, seat: &mut Seat, done: &Done) -> Result<(), DeskFault>
+    fn finish_and_fail_if_history_disagrees<R: Wait>(
+        &self,
+        rt: &R,
+        seat: &mut Seat,
+        done: &Done,
+    ) -> Result<(), DeskFault>
         requires started { is_unended seat.old.own done.now.number ≡ true }
         ensures finished { OnOk result (EndsJob done.now seat.old seat.new) }
         ensures left { IfErr result (λ fault. (fault ≡ DeskFault.Differs) × LeavesJob seat.old seat.new) }
     {
-        let (_, agrees) = self.finish_and_check_seat(rt, seat, done);
+        let (_, agrees) = self.finish_and_whether_seat_agrees(rt, seat, done);
         if !agrees {
             return Err(DeskFault::Differs);
         }
@@ -159,11 +175,16 @@ impl Desk {
 
     /// Gives up a job that the seat started: why its worker leaves. It is `Differs` where that is refused, after a history
     /// that disagrees with the seat.
-    fn abandon_job<R: Wait>(&self, rt: &R, seat: &mut Seat, number: u64) -> DeskFault
+    fn abandon_job_and_return_why_worker_leaves<R: Wait>(
+        &self,
+        rt: &R,
+        seat: &mut Seat,
+        number: u64,
+    ) -> DeskFault
         requires started { is_unended seat.old.own number ≡ true }
         ensures { GivesUp number result seat.old seat.new }
     {
-        let (_, agrees) = self.abandon_and_check_seat(rt, seat, number);
+        let (_, agrees) = self.abandon_and_whether_seat_agrees(rt, seat, number);
         if !agrees {
             return DeskFault::Differs;
         }

@@ -28,7 +28,7 @@ impl WorkerCounts {
     }
 
     /// Lets a worker in while fewer entered than there are; whether it is in.
-    pub fn try_enter(&mut self) -> bool
+    pub fn enter_unless_all_entered(&mut self) -> bool
         ensures is_in { IsTrue result ↔ self.old.entered < self.old.size }
         ensures counted { self.new ≡ record self.old { entered = self.old.entered + (if result then 1 else 0) } }
     {

@@ -21,18 +21,18 @@ use Rattle.pd_match.specs.declared.kinds.Kind.TheVariants as kind
 use Rattle.pd_print.specs.Laws.{SentPacketsAgree}
 use Rattle.pd_print.specs.Sent.{packet_of}
 use Rattle.pd_run.specs.Prechecks.{failed_precheck}
-use Rattle.pd_run.specs.Limits.{is_over_limit}
+use Rattle.pd_run.specs.Limits.{is_any_event_number_over_limit}
 use Rattle.pd_run.specs.Supported.{is_shape_supported, is_action_supported}
 use Rattle.pd_run.specs.RunStates.{RunStateView}
 use Rattle.pd_run.specs.Step.{tolerance_of, comparison_noted, with_state, on_expiry, expires, awaited, performed, unless_failed_precheck}
-use Rattle.pd_run.specs.Times.{time_range_of, is_before_base, may_be_in_time, base_after}
+use Rattle.pd_run.specs.Times.{time_range_of, is_before_base, is_not_too_late_within_tolerance, base_after_expected_packet}
 use Rattle.pd_run.specs.StopReason.{stop_reason, DifferencesAreFirst}
 use Rattle.pd_run.specs.declared.prechecks.Precheck.{Precheck}
 use Rattle.pd_run.specs.declared.prechecks.Precheck.TheVariants.{OverLimit, NotRun}
 use Rattle.pd_run.specs.declared.stop_reason.StopReason.{StopReason}
 use Rattle.pd_run.specs.declared.stop_reason.StopReason.TheVariants.{Missing, Differs}
 use Rattle.pd_run.proofs.Bounds.{given}
-use Rattle.pd_explain.specs.AlignedPackets.{relative_time_or_any}
+use Rattle.pd_explain.specs.AlignedPackets.{relative_or_any_time_from_base}
 use Rattle.pd_explain.specs.ActualPackets.{with_actual, ActualPacketsPass}
 
 -- The oldest packet after expiries
@@ -123,14 +123,14 @@ within base at tolerance true h =
 within base at tolerance false h = tt
 
 reaches : (base at tolerance : ℕ) (b : Bool) → nat_le base at ≡ b
-    → may_be_in_time (time_range_of base (if b then Relative (at - base) else Any)) tolerance at ≡ true
+    → is_not_too_late_within_tolerance (time_range_of base (if b then Relative (at - base) else Any)) tolerance at ≡ true
 reaches base at tolerance true h =
     let ahead : base ≤ at = grind (arith, nat_tests) in
     let later : at ≤ (base + (at - base)) + tolerance = omega (arith, ahead) in
     grind (arith, nat_tests)
 reaches base at tolerance false h = refl
 
-onwards : (base at : ℕ) (b : Bool) → nat_le base at ≡ b → base_after base (if b then Relative (at - base) else Any) at ≡ max base at
+onwards : (base at : ℕ) (b : Bool) → nat_le base at ≡ b → base_after_expected_packet base (if b then Relative (at - base) else Any) at ≡ max base at
 onwards base at true h =
     let ahead : base ≤ at = grind (arith, nat_tests) in
     omega (arith, ahead)
@@ -143,7 +143,7 @@ ahead_of base at n false = refl
 -- It agrees with the packet that is written of it
 
 agrees : SentPacketsAgree → (base : ℕ) (sent : Sent) (tolerance : ℕ) (field : Kind)
-    → Agrees (packet_of sent.segment) (time_range_of base (relative_time_or_any base sent.at)) sent tolerance field
+    → Agrees (packet_of sent.segment) (time_range_of base (relative_or_any_time_from_base base sent.at)) sent tolerance field
 agrees law base sent tolerance kind.Time = within base sent.at tolerance (nat_le base sent.at) refl
 agrees law base sent tolerance kind.Flags = law sent tolerance kind.Flags
 agrees law base sent tolerance kind.Seq = law sent tolerance kind.Seq
@@ -171,7 +171,7 @@ module _ (r q : RunStateView) (e : Event) (sent : Sent) (first : Oldest q.host.s
   expires_too : (deadline : Option ℕ) → deadline_of r.host.state ≡ deadline → (length r.host.state.endpoint.outbox == 0) ≡ true
       → expires r e deadline ≡ Ok q → (expires r (with_actual q.base sent e) deadline ≡ Ok q) × (q.base ≡ r.base)
   expires_too None d none h = absurd cc
-  expires_too (Some at) d none h = in_reach (may_be_in_time (time_range_of r.base e.time) (tolerance_of r) at) h
+  expires_too (Some at) d none h = in_reach (is_not_too_late_within_tolerance (time_range_of r.base e.time) (tolerance_of r) at) h
     where
       in_reach : (b : Bool) → (if b then on_expiry r at (advanced at r.host.state) else Err Missing) ≡ Ok q
           → (expires r (with_actual q.base sent e) (Some at) ≡ Ok q) × (q.base ≡ r.base)
@@ -179,7 +179,7 @@ module _ (r q : RunStateView) (e : Event) (sent : Sent) (first : Oldest q.host.s
       in_reach true h =
           let came = came_of r q at (advanced at r.host.state) h in
           let moment : sent.at ≡ at = first_at at r.host.state came.0 sent none d came.1 (subst (λ (s : SenderState). Oldest s sent) came.3 first) in
-          let reach : may_be_in_time (time_range_of r.base (relative_time_or_any q.base sent.at)) (tolerance_of r) at ≡ true =
+          let reach : is_not_too_late_within_tolerance (time_range_of r.base (relative_or_any_time_from_base q.base sent.at)) (tolerance_of r) at ≡ true =
           rw (came.2, moment) (reaches r.base at (tolerance_of r) (nat_le r.base at) refl) in
           (ap (λ (b : Bool). if b then on_expiry r at (advanced at r.host.state) else Err Missing) reach ∙ h, came.2)
 
@@ -210,7 +210,7 @@ first_of false b h = absurd cc
 -- the event has no blocking time
 not_blocking : (r q : RunStateView) (e : Event) (k : Kind) (sent : Sent) → stop_reason r e ≡ Some (Differs k sent q) → is_none e.blocking_end ≡ true
 not_blocking r q e k sent h =
-    let run : is_shape_supported e ≡ true = is_passed (is_over_limit e) (is_shape_supported e) _ (unbarred (performed r e e.action) (failed_precheck r.base e) k sent q h) in
+    let run : is_shape_supported e ≡ true = is_passed (is_any_event_number_over_limit e) (is_shape_supported e) _ (unbarred (performed r e e.action) (failed_precheck r.base e) k sent q h) in
     first_of (is_none e.blocking_end) (is_action_supported e.time e.action) run
 
 pub actual_packets_pass_by : DifferencesAreFirst → SentPacketsAgree → MismatchIsFirst → ActualPacketsPass
@@ -222,5 +222,5 @@ actual_packets_pass_by differ agree compare r q e p k sent is h limits =
     let ahead : is_before_base r.base a.time ≡ false = ahead_of q.base sent.at r.base (nat_le q.base sent.at) in
     let none : mismatch (packet_of sent.segment) (time_range_of q.base a.time) sent (tolerance_of q) ≡ None =
     no_mismatch _ _ (agrees agree q.base sent (tolerance_of q)) (compare (packet_of sent.segment) (time_range_of q.base a.time) sent (tolerance_of q)) in
-    let base : base_after q.base a.time sent.at ≡ max q.base sent.at = onwards q.base sent.at (nat_le q.base sent.at) refl in
+    let base : base_after_expected_packet q.base a.time sent.at ≡ max q.base sent.at = onwards q.base sent.at (nat_le q.base sent.at) refl in
     rw (limits, run, ahead, waits.0, differs.1, none, base) refl

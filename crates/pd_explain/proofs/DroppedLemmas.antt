@@ -11,11 +11,11 @@ use Rattle.pd_script.specs.declared.parsed.Parsed.{Parsed}
 use Rattle.pd_script.specs.declared.script_events.Event.{Event}
 use Rattle.pd_run.specs.Run.{start_of, states_from}
 use Rattle.pd_run.specs.Step.{RunStateView, on_step, step}
-use Rattle.pd_run.specs.StopPoints.{stop_reason_if_on_line, stop_by, stop_from, stop_in}
+use Rattle.pd_run.specs.StopPoints.{preview_stop_reason_if_on_line, stop_by, stop_from, stop_in}
 use Rattle.pd_run.specs.declared.stop_point.StopPoint.{StopPoint}
 use Rattle.pd_run.specs.declared.verdict.Verdict.{Verdict}
 use Rattle.pd_run.specs.declared.stop_reason.StopReason.{StopReason}
-use Rattle.pd_explain.specs.Dropped.{dropped_in_event, dropped_in, dropped_before, last, last_dropped}
+use Rattle.pd_explain.specs.Dropped.{dropped_in_event, dropped_in, dropped_before, last, last_dropped_segments_of_last_events}
 use Rattle.pd_explain.specs.Inner.{Reaches}
 use Rattle.pd_explain.specs.Origins.{stages}
 use Rattle.pd_explain.specs.declared.dropped.DroppedSegment.{DroppedSegment}
@@ -95,7 +95,7 @@ begins begun passed h = by (begun == 0) refl h
     by false is h = let far : begun + 16 ≤ passed = leb-true (begun + 16) passed h in omega (arith, far)
 
 pub told_left : (settings : Settings) (p : Parsed) (begun passed : ℕ) → Reaches settings p passed → ((begun == 0) || nat_le (begun + 16) passed) ≡ true
-    → last_dropped (drop begun (dropped_in settings p passed)) ≡ dropped_before settings p passed
+    → last_dropped_segments_of_last_events (drop begun (dropped_in settings p passed)) ≡ dropped_before settings p passed
 told_left settings p begun passed reached early = by begun (begun == 0) refl early
   where
     all : length (dropped_in settings p passed) ≡ passed
@@ -106,10 +106,10 @@ told_left settings p begun passed reached early = by begun (begun == 0) refl ear
         (omega (arith, zipped, length-map (zip (stages settings p) p.events) (λ (at : RunStateView × Event). dropped_in_event at.0 at.1)))
 
     by : (b : ℕ) (none : Bool) → (b == 0) ≡ none → ((b == 0) || nat_le (b + 16) passed) ≡ true
-        → last_dropped (drop b (dropped_in settings p passed)) ≡ dropped_before settings p passed
+        → last_dropped_segments_of_last_events (drop b (dropped_in settings p passed)) ≡ dropped_before settings p passed
     by b true is h =
         let zeroth : b ≡ 0 = grind (arith, nat_tests) in
-        ap (λ (k : ℕ). last_dropped (drop k (dropped_in settings p passed))) zeroth
+        ap (λ (k : ℕ). last_dropped_segments_of_last_events (drop k (dropped_in settings p passed))) zeroth
     by b false is h =
         let far : nat_le (b + 16) passed ≡ true = let h' = rw is at h in h' in
         let enough : b + 16 ≤ length (dropped_in settings p passed) = omega (arith, all, leb-true (b + 16) passed far) in
@@ -153,7 +153,7 @@ goes_on settings p n passed s e v reached stage found less stops = by (start_of 
 staged_from : (line n : ℕ) (es : List Event) (r : RunStateView) (stop : StopPoint) → stop_from line n es r ≡ Some stop
     → (m : ℕ) × (stop.passed ≡ n + m) × (slice_get (r ∷ states_from es r) m ≡ Some stop.before)
 staged_from line n [] r stop h = absurd cc
-staged_from line n (e ∷ es) r stop h = by (λ s is. staged_from line (n + 1) es s stop is) (stop_reason_if_on_line line r e) (step r e) h
+staged_from line n (e ∷ es) r stop h = by (λ s is. staged_from line (n + 1) es s stop is) (preview_stop_reason_if_on_line line r e) (step r e) h
   where
     by : ((s : RunStateView) → stop_from line (n + 1) es s ≡ Some stop
         → (m : ℕ) × (stop.passed ≡ n + 1 + m) × (slice_get (s ∷ states_from es s) m ≡ Some stop.before))

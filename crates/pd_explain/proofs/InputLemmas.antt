@@ -1,7 +1,7 @@
 -- The rule that is given for what a sender doesn't run is right of it.
 use Rattle.std.proofs.Common.{◌≡◌, ◌==◌, Bool, true, false, not, ◌&&◌, ◌||◌, if◌then◌else◌, Some, None, is_some, nat_lt, refl, sym, ap, ◌∙◌, true≢false}
 use Rattle.pd_seg.specs.declared.segments.Segment.{Segment}
-use Rattle.pd_host.specs.Arrivals.{is_stray_fin}
+use Rattle.pd_host.specs.Arrivals.{has_in_window_fin_out_of_order}
 use Rattle.pd_host.specs.Connection.{ConnectionView}
 use Rattle.pd_host.specs.Handshake.{is_listening, is_syn_alone, is_peer_mss_supported, length_of, offered_mss}
 use Rattle.pd_host.specs.declared.descriptors.ListenState.{ListenState}
@@ -33,7 +33,7 @@ openings_have_rules l s e =
 contents : {X : Type 0} (x : X) (c : ConnectionView) (s : Segment) (filled syn foreign_syntax closed is_reset : Bool)
     → nat_lt 0 (length_of s) ≡ filled
     → s.flags.syn ≡ syn
-    → is_stray_fin c s ≡ foreign_syntax
+    → has_in_window_fin_out_of_order c s ≡ foreign_syntax
     → is_closed_by c ≡ closed
     → c.is_reset ≡ is_reset
     → is_some (if filled || (syn || (foreign_syntax || closed)) then Some x else None) ≡ true
@@ -47,4 +47,4 @@ contents x c s false false false false is_reset hd hs ht hc hr e = absurd (true�
 
 pub contents_have_rules : ContentsHaveRules
 contents_have_rules c s e =
-    contents _ c s (nat_lt 0 (length_of s)) s.flags.syn (is_stray_fin c s) (is_closed_by c) c.is_reset refl refl refl refl refl e
+    contents _ c s (nat_lt 0 (length_of s)) s.flags.syn (has_in_window_fin_out_of_order c s) (is_closed_by c) c.is_reset refl refl refl refl refl e

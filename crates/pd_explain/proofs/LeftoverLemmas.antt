@@ -18,7 +18,7 @@ use Rattle.pd_run.specs.declared.stop_reason.StopReason.TheVariants.{FailedPrech
 use Rattle.pd_host.specs.declared.halts.Halt.TheVariants as halt
 use Rattle.pd_explain.specs.AlignedPackets.{sent_text}
 use Rattle.pd_explain.specs.Leftovers.{end_from, end_in, is_pass, PassesHaveEnds}
-use Rattle.pd_explain.specs.Explained.{first_unsupported_item}
+use Rattle.pd_explain.specs.Explained.{first_unsupported_header_item}
 use Rattle.pd_explain.proofs.StopIsThere.{starts}
 
 -- after a step that goes on, the end is that of the events left
@@ -99,7 +99,7 @@ AreAlike settings header events fault =
     ≡ is_pass (verdict_in settings (record { header = header; events = events; fault = fault }))
 
 by_found : ReasonsGiveVerdicts → (settings : Settings) (header : HeaderView) (events : List Event) (found : Option HeaderItem)
-    → first_unsupported_item header.items ≡ found → AreAlike settings header events None
+    → first_unsupported_header_item header.items ≡ found → AreAlike settings header events None
 by_found law settings header events None h =
     let start = starts settings header.items h in
     rw start.1 (by_events law 0 events start.0)
@@ -109,7 +109,7 @@ by_found law settings header events (Some item) h =
 
 by_fault : ReasonsGiveVerdicts → (settings : Settings) (header : HeaderView) (events : List Event) (fault : Option ℕ) → AreAlike settings header events fault
 by_fault law settings header events (Some line) = refl
-by_fault law settings header events None = by_found law settings header events (first_unsupported_item header.items) refl
+by_fault law settings header events None = by_found law settings header events (first_unsupported_header_item header.items) refl
 
 pub passes : ReasonsGiveVerdicts → PassesHaveEnds
 passes law = λ settings parsed. by_fault law settings parsed.header parsed.events parsed.fault

@@ -19,7 +19,7 @@ use Rattle.pd_match.specs.Packets.{mismatch}
 use Rattle.pd_match.specs.declared.kinds.Kind.{Kind}
 use Rattle.pd_run.specs.Prechecks.{failed_precheck}
 use Rattle.pd_run.specs.Laws.{unmatched}
-use Rattle.pd_run.specs.Step.{RunStateView, on_step, comparison_noted, judged, acted, arrives, on_arrival, answers, on_answer, expires, on_expiry, awaited, packet_taken, performed, unless_failed_precheck, event_outcome, stop_reason}
+use Rattle.pd_run.specs.Step.{RunStateView, on_step, comparison_noted, judged, acted, arrives, on_arrival, answers, on_answer, expires, on_expiry, awaited, packet_taken, performed, unless_failed_precheck, perform_event_and_find_stop, stop_reason}
 use Rattle.pd_run.specs.Times.{time_range_of}
 use Rattle.pd_run.specs.declared.prechecks.Precheck.{Precheck}
 use Rattle.pd_run.specs.declared.prechecks.Precheck.TheVariants.{NotRun}
@@ -129,7 +129,7 @@ of_bar came (Some bar) w h compared =
     absurd (subst Compared (sym same) compared)
 
 compared_unbarred : (r : RunStateView) (e : Event) (w : StopReason) → stop_reason r e ≡ Some w → Compared w → (failed_precheck r.base e ≡ None) × (performed r e e.action ≡ Err w)
-compared_unbarred r e w h compared = of_bar (performed r e e.action) (failed_precheck r.base e) w (of_outcome (event_outcome r e) w h) compared
+compared_unbarred r e w h compared = of_bar (performed r e e.action) (failed_precheck r.base e) w (of_outcome (perform_event_and_find_stop r e) w h) compared
 
 pub compared_stood : (r : RunStateView) (e : Event) (w : StopReason) → stop_reason r e ≡ Some w → Compared w → Stood r e e.action w
 compared_stood r e w h compared = of_performed r e e.action w (compared_unbarred r e w h compared).1

@@ -11,13 +11,13 @@ use Rattle.pd_run.specs.declared.verdict.Verdict.{Verdict}
 use Rattle.pd_lex.specs.declared.token.Place.{Place}
 use Rattle.pd_run.specs.declared.stop_point.StopPoint.{StopPoint}
 use Rattle.pd_explain.specs.Causes.{IsCauseOf, HasHistoryOf}
-use Rattle.pd_explain.specs.Dropped.{dropped_before_stop}
+use Rattle.pd_explain.specs.Dropped.{last_dropped_segments_if_packet_stop}
 use Rattle.pd_explain.specs.Explained.{HasHistory}
 use Rattle.pd_explain.specs.Failures.{Tells}
 use Rattle.pd_explain.specs.declared.causes.Cause.{Cause}
 use Rattle.pd_explain.specs.declared.causes.Cause.TheVariants as cause
 use Rattle.pd_explain.specs.Inner.{PacketsAppend, origin_by, AreTriggers, AreOriginsOf, unmatched_at}
-use Rattle.pd_explain.specs.Origins.{stages, packets_matched_by, taken_by, after_input, IsLetGo, IsSentBy, AreOrigins, OriginsAreUnique}
+use Rattle.pd_explain.specs.Origins.{stages, count_packets_matched_by, taken_by, after_input, IsLetGo, IsSentBy, AreOrigins, OriginsAreUnique}
 use Rattle.pd_explain.specs.declared.origins.Origin.{Origin}
 use Rattle.pd_explain.specs.declared.origins.Origin.TheVariants as origin
 use Rattle.pd_explain.specs.declared.dropped.DroppedSegment.{DroppedSegment}
@@ -46,7 +46,7 @@ are_origins settings parsed first passed packets triggers origins known enough r
 pub reported_with : (lines : List (List ℕ)) (place : Place) (e : Event) (stop : StopPoint) (settings : Settings) (parsed : Parsed) (before reported : Cause) (origins : List Origin)
     (dropped : List DroppedSegment)
     → HasHistoryOf before origins dropped reported → IsCauseOf lines place e stop before → AreOrigins settings parsed stop.passed (unmatched_at stop) origins
-    → dropped ≡ dropped_before_stop settings parsed stop → IsCauseOf lines place e stop reported × HasHistory settings parsed stop reported
+    → dropped ≡ last_dropped_segments_if_packet_stop settings parsed stop → IsCauseOf lines place e stop reported × HasHistory settings parsed stop reported
 reported_with lines place e stop settings parsed (cause.Failed f) reported origins dropped h is known till =
     subst (λ (t : Cause). IsCauseOf lines place e stop t × HasHistory settings parsed stop t) (sym h.1) (
       (is.0, (subst (Tells is.0 e stop.before stop.stop_reason) (sym h.4) is.1.0, h.5 ∙ is.1.1)),
@@ -70,7 +70,7 @@ further laws (e ∷ es) r s (suc m) h = go (λ t there. further laws es t s m th
         → length (unmatched r) ≤ taken_by (take (suc m) (e ∷ es)) + length (unmatched s)
     go ih (Ok t) is there =
         let later = ih t there in
-        let first : taken_by (take (suc m) (e ∷ es)) ≡ packets_matched_by e + taken_by (take m es) = refl in
+        let first : taken_by (take (suc m) (e ∷ es)) ≡ count_packets_matched_by e + taken_by (take m es) = refl in
         omega (arith, later, first, passes laws.taken r t e is, timer_grows laws r e e.action, input_grows laws r e e.action)
     go ih (Err v) is there = absurd cc
 
@@ -88,7 +88,7 @@ at_first laws d es q r s e m event state there = go (step q d) refl there
     go : (came : Result RunStateView Verdict) → step q d ≡ came → slice_get (on_step (λ t. t ∷ states_from es t) (λ v. []) came) m ≡ Some s
         → 0 + length (after_input r e) ≤ taken_by (take (suc m) (d ∷ es)) + length (unmatched s)
     go (Ok t) is later =
-        let first : taken_by (take (suc m) (d ∷ es)) ≡ packets_matched_by d + taken_by (take m es) = refl in
+        let first : taken_by (take (suc m) (d ∷ es)) ≡ count_packets_matched_by d + taken_by (take m es) = refl in
         omega (arith, further laws es t s m later, first, passes laws.taken q t d is, same)
     go (Err v) is later = absurd cc
 
@@ -110,8 +110,8 @@ beyond laws (d ∷ es) q r s e (suc n) (suc m) less found here there =
         → taken_by (take (suc n) (d ∷ es)) + length (after_input r e) ≤ taken_by (take (suc m) (d ∷ es)) + length (unmatched s)
     go ih (Ok t) left right =
         let later = ih t left right in
-        let first : taken_by (take (suc n) (d ∷ es)) ≡ packets_matched_by d + taken_by (take n es) = refl in
-        let second : taken_by (take (suc m) (d ∷ es)) ≡ packets_matched_by d + taken_by (take m es) = refl in
+        let first : taken_by (take (suc n) (d ∷ es)) ≡ count_packets_matched_by d + taken_by (take n es) = refl in
+        let second : taken_by (take (suc m) (d ∷ es)) ≡ count_packets_matched_by d + taken_by (take m es) = refl in
         omega (arith, later, first, second)
     go ih (Err v) left right = absurd cc
 

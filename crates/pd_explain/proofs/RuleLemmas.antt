@@ -13,10 +13,10 @@ use Rattle.pd_script.specs.declared.timing.Time.{Time}
 use Rattle.pd_script.specs.declared.timing.BlockingEnd.{BlockingEnd}
 use Rattle.pd_host.specs.Syscalls.{syscall_of}
 use Rattle.pd_host.specs.declared.syscall.Syscall.{Syscall}
-use Rattle.pd_run.specs.Limits.{is_high, is_present_number_over, is_block_over, is_option_over, are_options_over, is_packet_over, is_action_over}
+use Rattle.pd_run.specs.Limits.{is_high, is_present_number_over, is_block_over, is_option_over_limits, are_options_over_limits, is_packet_number_over_limit, is_action_number_over_limit}
 use Rattle.pd_run.specs.Supported.{is_action_supported}
 use Rattle.pd_run.specs.Times.{is_single_moment}
-use Rattle.pd_explain.specs.Rules.{limit_of, where_so, if_exceeded_by, if_exceeded_by_some, is_some_long, number_over_in_option, first_option_over, number_over_in_options, number_over_in_packet, number_over_in_action, LimitsHaveNumbers, is_known, call_shape, packet_shape, action_shape, ShapesHaveRules}
+use Rattle.pd_explain.specs.Rules.{limit_of, where_so, if_exceeded_by, if_exceeded_by_some, is_some_long, number_over_in_option, first_option_over, number_over_in_options, number_over_in_packet, number_over_in_action, LimitsHaveNumbers, is_known, find_unsupported_shape_of_call, find_unsupported_shape_by_packet_flags, find_unsupported_shape_of_action, ShapesHaveRules}
 use Rattle.pd_explain.specs.declared.rules.limited_numbers.LimitedNumber.{LimitedNumber}
 use Rattle.pd_explain.specs.declared.rules.limited_numbers.LimitedNumber.TheVariants as number
 use Rattle.pd_explain.specs.declared.rules.unsupported_shapes.UnsupportedShape.{UnsupportedShape}
@@ -42,7 +42,7 @@ written : (n : LimitedNumber) (most : ℕ) (value : Option ℕ) → limit_of n �
 written n most None h = refl
 written n most (Some v) h = where_it_is (nat_lt (limit_of n) v) n ∙ ap (λ m. nat_lt m v) h
 
-of_option : (o : PacketOption) → is_some (number_over_in_option o) ≡ is_option_over o
+of_option : (o : PacketOption) → is_some (number_over_in_option o) ≡ is_option_over_limits o
 of_option (Mss v) = where_it_is (nat_lt 65535 v) number.Mss
 of_option (Wscale v) = where_it_is (nat_lt 255 v) number.Shift
 of_option SackOk = refl
@@ -53,22 +53,22 @@ of_option (Sack blocks) =
     both (if_exceeded_by number.Blocks (length blocks)) (where_so (list_any is_block_over blocks) number.Edge) (nat_lt 4 (length blocks)) (list_any is_block_over blocks)
     (where_it_is (nat_lt 4 (length blocks)) number.Blocks) (where_it_is (list_any is_block_over blocks) number.Edge)
 
-of_list : (os : List PacketOption) → is_some (first_option_over os) ≡ list_any is_option_over os
+of_list : (os : List PacketOption) → is_some (first_option_over os) ≡ list_any is_option_over_limits os
 of_list [] = refl
-of_list (o ∷ os) = both (number_over_in_option o) (first_option_over os) (is_option_over o) (list_any is_option_over os) (of_option o) (of_list os)
+of_list (o ∷ os) = both (number_over_in_option o) (first_option_over os) (is_option_over_limits o) (list_any is_option_over_limits os) (of_option o) (of_list os)
 
-of_options : (os : Options) → is_some (number_over_in_options os) ≡ are_options_over os
+of_options : (os : Options) → is_some (number_over_in_options os) ≡ are_options_over_limits os
 of_options Absent = refl
 of_options Any = refl
 of_options (Listed os) =
-    both (if_exceeded_by number.Options (length os)) (first_option_over os) (nat_lt 16 (length os)) (list_any is_option_over os)
+    both (if_exceeded_by number.Options (length os)) (first_option_over os) (nat_lt 16 (length os)) (list_any is_option_over_limits os)
     (where_it_is (nat_lt 16 (length os)) number.Options) (of_list os)
 
-of_packet : (p : Packet) → is_some (number_over_in_packet p) ≡ is_packet_over p
+of_packet : (p : Packet) → is_some (number_over_in_packet p) ≡ is_packet_number_over_limit p
 of_packet p =
     both (option_or (option_or (option_or (if_exceeded_by number.Start p.start) (if_exceeded_by number.End p.end)) (if_exceeded_by_some number.Ack p.ack)) (if_exceeded_by_some number.Window p.win))
     (number_over_in_options p.options)
-    (is_high p.start || is_high p.end || is_present_number_over 2147483647 p.ack || is_present_number_over 65535 p.win) (are_options_over p.options)
+    (is_high p.start || is_high p.end || is_present_number_over 2147483647 p.ack || is_present_number_over 65535 p.win) (are_options_over_limits p.options)
     (both (option_or (option_or (if_exceeded_by number.Start p.start) (if_exceeded_by number.End p.end)) (if_exceeded_by_some number.Ack p.ack)) (if_exceeded_by_some number.Window p.win)
     (is_high p.start || is_high p.end || is_present_number_over 2147483647 p.ack) (is_present_number_over 65535 p.win)
     (both (option_or (if_exceeded_by number.Start p.start) (if_exceeded_by number.End p.end)) (if_exceeded_by_some number.Ack p.ack)
@@ -79,16 +79,16 @@ of_packet p =
     (written number.Window 65535 p.win refl))
     (of_options p.options)
 
-of_action : (a : Action) → is_some (number_over_in_action a) ≡ is_action_over a
+of_action : (a : Action) → is_some (number_over_in_action a) ≡ is_action_number_over_limit a
 of_action (action.Inbound p) = of_packet p
 of_action (action.Outbound p) = of_packet p
-of_action (action.Call call) = where_it_is (is_action_over (action.Call call)) number.Write
+of_action (action.Call call) = where_it_is (is_action_number_over_limit (action.Call call)) number.Write
 of_action action.Command = refl
 of_action action.Code = refl
 
 pub limits_have_numbers : LimitsHaveNumbers
 limits_have_numbers e =
-    before (is_some_long e.time e.blocking_end) number.Time (number_over_in_action e.action) (is_action_over e.action) (of_action e.action)
+    before (is_some_long e.time e.blocking_end) number.Time (number_over_in_action e.action) (is_action_number_over_limit e.action) (of_action e.action)
 
 unsingle : (s : Bool) (r : UnsupportedShape) (o : Option UnsupportedShape) (x : Bool) → is_some o ≡ not x → is_some (if not s then Some r else o) ≡ not (s && x)
 unsingle true r o x h = h
@@ -102,11 +102,11 @@ unrun : (r : Option Syscall) (known : Bool) → is_some (if is_some r then None 
 unrun None known = refl
 unrun (Some r) known = refl
 
-shaped : (time : Time) (a : Action) → is_some (action_shape time a) ≡ not (is_action_supported time a)
-shaped time (action.Inbound p) = unsingle (is_single_moment time) shape.InboundTime (packet_shape p) (not p.flags.other) (flagged p.flags.other)
+shaped : (time : Time) (a : Action) → is_some (find_unsupported_shape_of_action time a) ≡ not (is_action_supported time a)
+shaped time (action.Inbound p) = unsingle (is_single_moment time) shape.InboundTime (find_unsupported_shape_by_packet_flags p) (not p.flags.other) (flagged p.flags.other)
 shaped time (action.Outbound p) = flagged p.flags.other
 shaped time (action.Call call) =
-    unsingle (is_single_moment time) shape.CallTime (call_shape call) (is_some (syscall_of call)) (unrun (syscall_of call) (is_known call.function))
+    unsingle (is_single_moment time) shape.CallTime (find_unsupported_shape_of_call call) (is_some (syscall_of call)) (unrun (syscall_of call) (is_known call.function))
 shaped time action.Command = refl
 shaped time action.Code = refl
 
@@ -115,4 +115,4 @@ blocked None o x h = h
 blocked (Some u) o x h = refl
 
 pub shapes_have_rules : ShapesHaveRules
-shapes_have_rules e = blocked e.blocking_end (action_shape e.time e.action) (is_action_supported e.time e.action) (shaped e.time e.action)
+shapes_have_rules e = blocked e.blocking_end (find_unsupported_shape_of_action e.time e.action) (is_action_supported e.time e.action) (shaped e.time e.action)

@@ -12,7 +12,7 @@ use Rattle.pd_reparse.specs.Reading.{reading_of}
 use Rattle.pd_host.specs.Host.{fresh_host}
 use Rattle.pd_run.specs.Run.{tolerance_in, start_of, verdict_in, verdict_from}
 use Rattle.pd_run.specs.Step.{RunStateView, on_step, step}
-use Rattle.pd_run.specs.StopPoints.{stop_reason_if_on_line, stop_by, stop_from, stop_in, line_of, VerdictsHaveReasons}
+use Rattle.pd_run.specs.StopPoints.{preview_stop_reason_if_on_line, stop_by, stop_from, stop_in, line_of, VerdictsHaveReasons}
 use Rattle.pd_run.specs.StopReason.{verdict_at}
 use Rattle.pd_run.specs.declared.stop_point.StopPoint.{StopPoint}
 use Rattle.pd_run.specs.declared.verdict.Verdict.{Verdict}
@@ -20,8 +20,8 @@ use Rattle.pd_run.specs.declared.verdict.Verdict.TheVariants as verdict
 use Rattle.pd_run.specs.declared.stop_reason.StopReason.{StopReason}
 use Rattle.pd_explain.specs.Causes.{IsCauseOf}
 use Rattle.pd_explain.specs.declared.causes.Cause.{Cause}
-use Rattle.pd_explain.specs.Explained.{line_unless_pass, first_unsupported_item, StopsAt, HasHistory, IsCauseIn, IsCause}
-use Rattle.pd_explain.specs.Parts.{event_place}
+use Rattle.pd_explain.specs.Explained.{line_unless_pass, first_unsupported_header_item, StopsAt, HasHistory, IsCauseIn, IsCause}
+use Rattle.pd_explain.specs.Parts.{place_of_event_after_passed}
 
 -- where a stop is found among so many events after n others
 abbrev Within : ℕ → ℕ → Option StopPoint → Type 0
@@ -48,10 +48,10 @@ within line n [] r = tt
 within line n (e ∷ es) r =
     let one_more : length es + 1 ≡ length (e ∷ es) = omega arith in
     subst (λ m. Within n m (stop_from line n (e ∷ es) r)) one_more
-    (here n (length es) r (stop_reason_if_on_line line r e) _ (onwards line n es (step r e) (λ s. within line (n + 1) es s)))
+    (here n (length es) r (preview_stop_reason_if_on_line line r e) _ (onwards line n es (step r e) (λ s. within line (n + 1) es s)))
 
 -- the run of a header that is run begins
-pub starts : (settings : Settings) (items : List HeaderItem) → first_unsupported_item items ≡ None → (r : RunStateView) × (start_of items settings ≡ Ok r)
+pub starts : (settings : Settings) (items : List HeaderItem) → first_unsupported_header_item items ≡ None → (r : RunStateView) × (start_of items settings ≡ Ok r)
 starts settings items h = (
   record {
     host = fresh_host settings;
@@ -72,7 +72,7 @@ IsThere line settings parsed = (stop : StopPoint) × (stop_in line settings pars
 
 by_fault : VerdictsHaveReasons → (settings : Settings) (header : HeaderView) (events : List Event) (fault : Option ℕ) (line : ℕ)
     → line_of (verdict_in settings (record { header = header; events = events; fault = fault })) ≡ Some line
-    → first_unsupported_item header.items ≡ None → IsThere line settings (record { header = header; events = events; fault = fault })
+    → first_unsupported_header_item header.items ≡ None → IsThere line settings (record { header = header; events = events; fault = fault })
 by_fault law settings header events (Some at) line h run = absurd cc
 by_fault law settings header events None line h run =
     let start = starts settings header.items run in
@@ -82,12 +82,12 @@ by_fault law settings header events None line h run =
     (stop.0, rw start.1 stop.1, (omega (arith, below), rw start.1 stop.2))
 
 pub is_there : VerdictsHaveReasons → (settings : Settings) (parsed : Parsed) (line : ℕ)
-    → line_of (verdict_in settings parsed) ≡ Some line → first_unsupported_item parsed.header.items ≡ None → IsThere line settings parsed
+    → line_of (verdict_in settings parsed) ≡ Some line → first_unsupported_header_item parsed.header.items ≡ None → IsThere line settings parsed
 is_there law settings parsed line h run = by_fault law settings parsed.header parsed.events parsed.fault line h run
 
 -- the stop that is found is such a stop
 pub stops_within : VerdictsHaveReasons → (settings : Settings) (parsed : Parsed) (line : ℕ) (stop : StopPoint)
-    → line_of (verdict_in settings parsed) ≡ Some line → first_unsupported_item parsed.header.items ≡ None → stop_in line settings parsed ≡ Some stop
+    → line_of (verdict_in settings parsed) ≡ Some line → first_unsupported_header_item parsed.header.items ≡ None → stop_in line settings parsed ≡ Some stop
     → StopsWithin line settings parsed stop
 stops_within law settings parsed line stop h run found =
     let there = is_there law settings parsed line h run in
@@ -98,7 +98,7 @@ stops_within law settings parsed line stop h run found =
 
 -- the cause of such a stop at an event is that of the run's verdict
 pub causes_in : (text : List (List ℕ)) (settings : Settings) (parsed : Parsed) (line : ℕ) (v : Verdict) (stop : StopPoint) (e : Event) (reported : Result Cause AllocError)
-    → first_unsupported_item parsed.header.items ≡ None → StopsAt line settings parsed v e stop → IfOk reported (λ cause. IsCauseOf text (event_place (reading_of text) stop.passed) e stop cause × HasHistory settings parsed stop cause)
+    → first_unsupported_header_item parsed.header.items ≡ None → StopsAt line settings parsed v e stop → IfOk reported (λ cause. IsCauseOf text (place_of_event_after_passed (reading_of text) stop.passed) e stop cause × HasHistory settings parsed stop cause)
     → IfOk reported (IsCauseIn text line settings parsed v)
 causes_in text settings parsed line v stop e (Ok cause) run at is = rw run (e, stop, at, is.0, is.1)
 causes_in text settings parsed line v stop e (Err x) run at is = tt

@@ -12,11 +12,11 @@ use Rattle.pd_reparse.specs.declared.parsed_event.ParsedEvent.{ParsedEvent}
 use Rattle.pd_run.specs.Laws.{unmatched, StartsUnderway}
 use Rattle.pd_run.specs.Run.{start_of}
 use Rattle.pd_run.specs.Step.{RunStateView, on_step, step}
-use Rattle.pd_run.specs.StopPoints.{stop_reason_if_on_line, stop_from}
+use Rattle.pd_run.specs.StopPoints.{preview_stop_reason_if_on_line, stop_from}
 use Rattle.pd_run.specs.StopReason.{stop_reason}
 use Rattle.pd_run.specs.declared.verdict.Verdict.{Verdict}
 use Rattle.pd_run.specs.declared.stop_reason.StopReason.{StopReason}
-use Rattle.pd_explain.specs.Explained.{first_unsupported_item}
+use Rattle.pd_explain.specs.Explained.{first_unsupported_header_item}
 use Rattle.pd_explain.specs.Inner.{IsResumed, AreTriggers}
 use Rattle.pd_explain.specs.Origins.{taken_by}
 use Rattle.pd_explain.specs.declared.origins.Trigger.{Trigger}
@@ -48,9 +48,9 @@ begun_at law settings p r came is ok = begun law settings p r (sym is ∙ ok)
 
 -- and has put nothing out
 pub fresh : (settings : Settings) (items : List HeaderItem) (r : RunStateView) → start_of items settings ≡ Ok r → unmatched r ≡ []
-fresh settings items r h = go (first_unsupported_item items) refl
+fresh settings items r h = go (first_unsupported_header_item items) refl
   where
-    go : (o : Option HeaderItem) → first_unsupported_item items ≡ o → unmatched r ≡ []
+    go : (o : Option HeaderItem) → first_unsupported_header_item items ≡ o → unmatched r ≡ []
     go (Some item) is = absurd (let bad = rw is at h in cc)
     go None is = let good = rw is at h in sym (ap (on_step unmatched (λ (v : Verdict). unmatched r)) good)
 
@@ -60,7 +60,7 @@ pub none_known : (settings : Settings) (p : Parsed) (n : ℕ) (r : RunStateView)
 none_known settings p n r = record { counted = omega arith; each = λ place at trigger h. absurd cc }
 
 -- a reason on a line is a reason
-pub reason_is : (line : ℕ) (r : RunStateView) (e : Event) (w : StopReason) → stop_reason_if_on_line line r e ≡ Some w → stop_reason r e ≡ Some w
+pub reason_is : (line : ℕ) (r : RunStateView) (e : Event) (w : StopReason) → preview_stop_reason_if_on_line line r e ≡ Some w → stop_reason r e ≡ Some w
 reason_is line r e w h = by (e.line == line) h
   where
     by : (b : Bool) → (if b then stop_reason r e else None) ≡ Some w → stop_reason r e ≡ Some w
@@ -68,12 +68,12 @@ reason_is line r e w h = by (e.line == line) h
     by false h = absurd cc
 
 -- where the next event has a reason the run stops at it
-pub stops_here : (line n : ℕ) (es rest : List Event) (r : RunStateView) (e : Event) (w : StopReason) → es ≡ e ∷ rest → stop_reason_if_on_line line r e ≡ Some w
+pub stops_here : (line n : ℕ) (es rest : List Event) (r : RunStateView) (e : Event) (w : StopReason) → es ≡ e ∷ rest → preview_stop_reason_if_on_line line r e ≡ Some w
     → stop_from line n es r ≡ Some (record { passed = n; before = r; stop_reason = w })
 stops_here line n es rest r e w split h = rw (split, h) refl
 
 -- where it stops without a reason on the line, none is found
-pub stops_elsewhere : (line n : ℕ) (es rest : List Event) (r : RunStateView) (e : Event) (v : Verdict) → es ≡ e ∷ rest → stop_reason_if_on_line line r e ≡ None
+pub stops_elsewhere : (line n : ℕ) (es rest : List Event) (r : RunStateView) (e : Event) (v : Verdict) → es ≡ e ∷ rest → preview_stop_reason_if_on_line line r e ≡ None
     → step r e ≡ Err v → stop_from line n es r ≡ None
 stops_elsewhere line n es rest r e v split h stops = rw (split, h, stops) refl
 

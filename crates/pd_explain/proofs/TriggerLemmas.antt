@@ -27,13 +27,13 @@ use Rattle.pd_run.specs.Prechecks.{failed_precheck}
 use Rattle.pd_run.specs.InboundSegment.{segment_in}
 use Rattle.pd_run.specs.Laws.{unmatched, PassedPacketsAreTaken}
 use Rattle.pd_run.specs.Run.{start_of, states_from}
-use Rattle.pd_run.specs.Step.{RunStateView, on_step, comparison_noted, action_time, acted, arrives, on_arrival, answers, on_answer, expires, performed, event_outcome, step}
+use Rattle.pd_run.specs.Step.{RunStateView, on_step, comparison_noted, action_time_not_before_clock, acted, arrives, on_arrival, answers, on_answer, expires, performed, perform_event_and_find_stop, step}
 use Rattle.pd_run.specs.declared.verdict.Verdict.{Verdict}
 use Rattle.pd_run.specs.declared.stop_reason.StopReason.{StopReason}
 use Rattle.pd_run.specs.declared.stop_reason.StopReason.TheVariants.{Answered}
 use Rattle.pd_run.proofs.Bounds.{given, agreed, unbarred, goes, step_performs}
 use Rattle.pd_explain.specs.Inner.{PacketsAppend, origin_by, triggers_of, triggers_at, AreTriggers}
-use Rattle.pd_explain.specs.Origins.{stages, awaits_packet, packets_matched_by, taken_by, packets_in, packets_after, put_out_by_timer, put_out_by_input, after_timer, after_input, IsReached, IsSentBy}
+use Rattle.pd_explain.specs.Origins.{stages, awaits_packet, count_packets_matched_by, taken_by, packets_in, packets_after, put_out_by_timer, put_out_by_input, after_timer, after_input, IsReached, IsSentBy}
 use Rattle.pd_explain.specs.declared.origins.Origin.TheVariants as origin
 use Rattle.pd_explain.specs.declared.origins.Trigger.{Trigger}
 use Rattle.pd_explain.specs.declared.origins.Trigger.TheVariants.{Timer, Line}
@@ -57,11 +57,11 @@ of_wait r x true is = let none = none_there (length (unmatched r)) is in omega (
 of_wait r x false is = omega arith
 
 pub timer_grows : PacketsAppend → (r : RunStateView) (e : Event) (a : Action) → length (unmatched r) ≤ length (put_out_by_timer r e a)
-timer_grows laws r e (Inbound p) = of_advance laws.advances (action_time r e) r.host.state (advanced (action_time r e) r.host.state) refl
+timer_grows laws r e (Inbound p) = of_advance laws.advances (action_time_not_before_clock r e) r.host.state (advanced (action_time_not_before_clock r e) r.host.state) refl
 timer_grows laws r e (Outbound p) = of_wait r (expires (comparison_noted r) e (deadline_of r.host.state)) (length (unmatched r) == 0) refl
-timer_grows laws r e (Calls call) = of_advance laws.advances (action_time r e) r.host.state (advanced (action_time r e) r.host.state) refl
-timer_grows laws r e Command = of_advance laws.advances (action_time r e) r.host.state (advanced (action_time r e) r.host.state) refl
-timer_grows laws r e Code = of_advance laws.advances (action_time r e) r.host.state (advanced (action_time r e) r.host.state) refl
+timer_grows laws r e (Calls call) = of_advance laws.advances (action_time_not_before_clock r e) r.host.state (advanced (action_time_not_before_clock r e) r.host.state) refl
+timer_grows laws r e Command = of_advance laws.advances (action_time_not_before_clock r e) r.host.state (advanced (action_time_not_before_clock r e) r.host.state) refl
+timer_grows laws r e Code = of_advance laws.advances (action_time_not_before_clock r e) r.host.state (advanced (action_time_not_before_clock r e) r.host.state) refl
 
 of_arrival : PutsOutAfter → (before : List Sent) (p : Packet) (at : ℕ) (s : SenderState) (came : Result SenderState Halt) → arrived (segment_in p) at s ≡ came
     → length s.endpoint.outbox ≤ length (packets_in s.endpoint.outbox came)
@@ -84,9 +84,9 @@ call_grows law before call at (Ok s) = of_call law call at s (called call at s) 
 call_grows law before call at (Err halt) = omega arith
 
 pub input_grows : PacketsAppend → (r : RunStateView) (e : Event) (a : Action) → length (put_out_by_timer r e a) ≤ length (put_out_by_input r e a)
-input_grows laws r e (Inbound p) = arrival_grows laws.arrivals (unmatched r) p (action_time r e) (advanced (action_time r e) r.host.state)
+input_grows laws r e (Inbound p) = arrival_grows laws.arrivals (unmatched r) p (action_time_not_before_clock r e) (advanced (action_time_not_before_clock r e) r.host.state)
 input_grows laws r e (Outbound p) = omega arith
-input_grows laws r e (Calls call) = call_grows laws.calls (unmatched r) call (action_time r e) (advanced (action_time r e) r.host.state)
+input_grows laws r e (Calls call) = call_grows laws.calls (unmatched r) call (action_time_not_before_clock r e) (advanced (action_time_not_before_clock r e) r.host.state)
 input_grows laws r e Command = omega arith
 input_grows laws r e Code = omega arith
 
@@ -104,29 +104,29 @@ by_answer r s e call before (Ok (t, answer)) h =
 by_answer r s e call before (Err halt) h = absurd cc
 
 by_action : PassedPacketsAreTaken → (r s : RunStateView) (e : Event) (a : Action) → e.action ≡ a → step r e ≡ Ok s → performed r e a ≡ Ok s
-    → length (unmatched s) + packets_matched_by e ≡ length (put_out_by_input r e a)
+    → length (unmatched s) + count_packets_matched_by e ≡ length (put_out_by_input r e a)
 by_action law r s e (Inbound p) is h went =
-    let none : packets_matched_by e ≡ 0 = rw is refl in
+    let none : count_packets_matched_by e ≡ 0 = rw is refl in
     let left = by_arrival r s e (put_out_by_timer r e (Inbound p)) (arrives r e p) went in
     omega (arith, none, ap length left)
 by_action law r s e (Outbound p) is h went =
-    let one : packets_matched_by e ≡ 1 = rw is refl in
+    let one : count_packets_matched_by e ≡ 1 = rw is refl in
     let took = law r s e p is h in
     let stood : put_out_by_input r e (Outbound p) ≡ unmatched took.0 = ap (on_step unmatched (λ w. unmatched r)) took.2 in
     omega (arith, one, ap length stood, ap length took.4)
 by_action law r s e (Calls call) is h went =
-    let none : packets_matched_by e ≡ 0 = rw is refl in
+    let none : count_packets_matched_by e ≡ 0 = rw is refl in
     let left = by_answer r s e call (put_out_by_timer r e (Calls call)) (answers r e call) went in
     omega (arith, none, ap length left)
 by_action law r s e Command is h went = absurd cc
 by_action law r s e Code is h went = absurd cc
 
 pub passes : PassedPacketsAreTaken → (r s : RunStateView) (e : Event) → step r e ≡ Ok s
-    → length (unmatched s) + packets_matched_by e ≡ length (after_input r e)
+    → length (unmatched s) + count_packets_matched_by e ≡ length (after_input r e)
 passes law r s e h = by_action law r s e e.action refl h (step_performs r s e h)
 
 pub step_unbarred : (r s : RunStateView) (e : Event) → step r e ≡ Ok s → failed_precheck r.base e ≡ None
-step_unbarred r s e h = (unbarred (performed r e e.action) (failed_precheck r.base e) s (goes e.line (event_outcome r e) s h)).0
+step_unbarred r s e h = (unbarred (performed r e e.action) (failed_precheck r.base e) s (goes e.line (perform_event_and_find_stop r e) s h)).0
 
 -- Lists
 
@@ -151,13 +151,13 @@ slice_replicate n i a x h =
     let below : i < n = omega (arith, within, length-replicate n a) in
     (below, sym (get_or_from_slice_get (replicate n a) i x a h) ∙ get_or-replicate n i a a below)
 
-pub taken_more : (es : List Event) (n : ℕ) (e : Event) → slice_get es n ≡ Some e → taken_by (take (n + 1) es) ≡ taken_by (take n es) + packets_matched_by e
+pub taken_more : (es : List Event) (n : ℕ) (e : Event) → slice_get es n ≡ Some e → taken_by (take (n + 1) es) ≡ taken_by (take n es) + count_packets_matched_by e
 taken_more [] n e h = absurd cc
 taken_more (d ∷ es) zero e h = let same : d ≡ e = cc in rw same (omega arith)
 taken_more (d ∷ es) (suc n) e h =
     let later : suc n + 1 ≡ suc (n + 1) = omega arith in
-    let first : taken_by (take (suc n + 1) (d ∷ es)) ≡ packets_matched_by d + taken_by (take (n + 1) es) = ap (λ (k : ℕ). taken_by (take k (d ∷ es))) later in
-    let second : taken_by (take (suc n) (d ∷ es)) ≡ packets_matched_by d + taken_by (take n es) = refl in
+    let first : taken_by (take (suc n + 1) (d ∷ es)) ≡ count_packets_matched_by d + taken_by (take (n + 1) es) = ap (λ (k : ℕ). taken_by (take k (d ∷ es))) later in
+    let second : taken_by (take (suc n) (d ∷ es)) ≡ count_packets_matched_by d + taken_by (take n es) = refl in
     omega (arith, first, second, taken_more es n e h)
 
 pub stage_next : (es : List Event) (q r s : RunStateView) (n : ℕ) (e : Event) → slice_get (q ∷ states_from es q) n ≡ Some r → slice_get es n ≡ Some e
@@ -277,7 +277,7 @@ awaited_alone r e Command h = refl
 awaited_alone r e Code h = refl
 
 pub timer_of : (r : RunStateView) (e : Event) (a : Action) → awaits_packet a ≡ false
-    → put_out_by_timer r e a ≡ packets_in (unmatched r) (advanced (action_time r e) r.host.state)
+    → put_out_by_timer r e a ≡ packets_in (unmatched r) (advanced (action_time_not_before_clock r e) r.host.state)
 timer_of r e (Inbound p) h = refl
 timer_of r e (Outbound p) h = absurd cc
 timer_of r e (Calls call) h = refl
@@ -318,15 +318,15 @@ pub none_due : (at moment : ℕ) (s : SenderState) → moment ≡ at → is_some
 none_due at moment s is none =
     undue at s (of_due moment (due_by at (deadline_of s)) (subst (λ (m : ℕ). is_some (due_by m (deadline_of s)) ≡ false) is none))
 
-pub not_due : (r : RunStateView) (e : Event) (moment : ℕ) → awaits_packet e.action ≡ false → moment ≡ action_time r e
+pub not_due : (r : RunStateView) (e : Event) (moment : ℕ) → awaits_packet e.action ≡ false → moment ≡ action_time_not_before_clock r e
     → is_some (due_by moment (deadline_of r.host.state)) ≡ false → length (unmatched r) ≡ length (after_timer r e)
 not_due r e moment not is none =
-    let came : advanced (action_time r e) r.host.state ≡ Ok r.host.state =
-    undue (action_time r e) r.host.state (of_due moment (due_by (action_time r e) (deadline_of r.host.state))
+    let came : advanced (action_time_not_before_clock r e) r.host.state ≡ Ok r.host.state =
+    undue (action_time_not_before_clock r e) r.host.state (of_due moment (due_by (action_time_not_before_clock r e) (deadline_of r.host.state))
     (subst (λ (m : ℕ). is_some (due_by m (deadline_of r.host.state)) ≡ false) is none)) in
     sym (ap (λ (l : List Sent). length l) (timer_of r e e.action not ∙ ap (packets_in (unmatched r)) came))
 
-pub has_expiry_by : (r : RunStateView) (e : Event) (moment : ℕ) → awaits_packet e.action ≡ false → moment ≡ action_time r e
+pub has_expiry_by : (r : RunStateView) (e : Event) (moment : ℕ) → awaits_packet e.action ≡ false → moment ≡ action_time_not_before_clock r e
     → length (packets_in (unmatched r) (advanced moment r.host.state)) ≡ length (after_timer r e)
 has_expiry_by r e moment not is =
     ap (λ (m : ℕ). length (packets_in (unmatched r) (advanced m r.host.state))) is

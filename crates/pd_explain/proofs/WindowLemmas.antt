@@ -5,11 +5,11 @@ use Rattle.std.proofs.lemmas.Bool.Decides.{nat_tests}
 use Rattle.pd_script.specs.declared.script_events.Action.{Action}
 use Rattle.pd_host.specs.Connection.{ConnectionView}
 use Rattle.pd_host.specs.SendBlockers.{last_octet_needed_in_windows, is_worth_sending, new_segment_send_blocker, ordinary_send_blocker, blocker_in_recovery, established_send_blocker, blocker_by, blocker_on, blocker_in}
-use Rattle.pd_host.specs.Sending.{usable_window, unsent_octets, can_send_full_segment, can_send_all_queued, can_send_half_max_window, can_new_segment_leave, with_next_past_sacked}
+use Rattle.pd_host.specs.Sending.{usable_window, unsent_octets, can_send_full_segment, is_unsent_within_usable_window, can_send_half_max_window, may_leave_by_sws_and_nagle, with_next_past_sacked}
 use Rattle.pd_host.specs.declared.established.Established.{Established}
 use Rattle.pd_host.specs.declared.connection.introspection.SendBlocker.{SendBlocker}
 use Rattle.pd_host.specs.declared.connection.introspection.SendBlocker.TheVariants.{Reset, NotEstablished, Acknowledged, PipeFull, NothingNext, Recovering, AllSent, PeerWindow, CongestionWindow, PartOfSegment, Nagle, Open}
-use Rattle.pd_explain.specs.SenderSnapshots.{expects_no_octets, reason_of}
+use Rattle.pd_explain.specs.SenderSnapshots.{expects_no_sequence_space, reason_of}
 use Rattle.pd_explain.specs.Windows.{IsWithin, HoldsByPeer, HoldsByCongestion, LeavesPart, NamedWindowsHold}
 use Rattle.pd_explain.specs.declared.causes.not_sent_reason.NotSentReason.TheVariants.{NoOctets, Held}
 
@@ -52,12 +52,12 @@ module _ (c : ConnectionView) (e : Established) where
   of_new : nat_le (c.board.una + e.rwnd) (last_octet_needed_in_windows c) ≡ false → nat_le (c.board.una + e.congestion.cwnd) (last_octet_needed_in_windows c) ≡ false
       → nat_lt c.board.next c.board.top ≡ false → Says c e (new_segment_send_blocker c e)
   of_new peer window new =
-      chosen (Says c e) (not (is_worth_sending c e)) PartOfSegment (if can_new_segment_leave c e then Open else Nagle) (λ few. part few)
-      (λ _. chosen (Says c e) (can_new_segment_leave c e) Open Nagle (λ _. tt) (λ _. tt))
+      chosen (Says c e) (not (is_worth_sending c e)) PartOfSegment (if may_leave_by_sws_and_nagle c e then Open else Nagle) (λ few. part few)
+      (λ _. chosen (Says c e) (may_leave_by_sws_and_nagle c e) Open Nagle (λ _. tt) (λ _. tt))
     where
       part : not (is_worth_sending c e) ≡ true → LeavesPart c e
       part few =
-          let tests = neither (can_send_full_segment c e) (can_send_all_queued c e) (can_send_half_max_window c e) few in (
+          let tests = neither (can_send_full_segment c e) (is_unsent_within_usable_window c e) (can_send_half_max_window c e) few in (
             subst (λ (octet : ℕ). IsWithin c e.rwnd octet) (first_new new) (within c.board.una e.rwnd (last_octet_needed_in_windows c) peer),
             subst (λ (octet : ℕ). IsWithin c e.congestion.cwnd octet) (first_new new) (within c.board.una e.congestion.cwnd (last_octet_needed_in_windows c) window),
             fewer (unsent_octets c) (usable_window c e) c.board.smss tests.0 tests.1,
@@ -94,16 +94,16 @@ told_is false h send_blocker e = cc
 reason_is : (expected : Action) (h send_blocker : SendBlocker) → reason_of expected h ≡ Held send_blocker → h ≡ send_blocker
 reason_is expected Reset send_blocker e = cc
 reason_is expected NotEstablished send_blocker e = cc
-reason_is expected Acknowledged send_blocker e = told_is (expects_no_octets expected) Acknowledged send_blocker e
-reason_is expected PipeFull send_blocker e = told_is (expects_no_octets expected) PipeFull send_blocker e
-reason_is expected NothingNext send_blocker e = told_is (expects_no_octets expected) NothingNext send_blocker e
-reason_is expected Recovering send_blocker e = told_is (expects_no_octets expected) Recovering send_blocker e
-reason_is expected AllSent send_blocker e = told_is (expects_no_octets expected) AllSent send_blocker e
-reason_is expected PeerWindow send_blocker e = told_is (expects_no_octets expected) PeerWindow send_blocker e
-reason_is expected CongestionWindow send_blocker e = told_is (expects_no_octets expected) CongestionWindow send_blocker e
-reason_is expected PartOfSegment send_blocker e = told_is (expects_no_octets expected) PartOfSegment send_blocker e
-reason_is expected Nagle send_blocker e = told_is (expects_no_octets expected) Nagle send_blocker e
-reason_is expected Open send_blocker e = told_is (expects_no_octets expected) Open send_blocker e
+reason_is expected Acknowledged send_blocker e = told_is (expects_no_sequence_space expected) Acknowledged send_blocker e
+reason_is expected PipeFull send_blocker e = told_is (expects_no_sequence_space expected) PipeFull send_blocker e
+reason_is expected NothingNext send_blocker e = told_is (expects_no_sequence_space expected) NothingNext send_blocker e
+reason_is expected Recovering send_blocker e = told_is (expects_no_sequence_space expected) Recovering send_blocker e
+reason_is expected AllSent send_blocker e = told_is (expects_no_sequence_space expected) AllSent send_blocker e
+reason_is expected PeerWindow send_blocker e = told_is (expects_no_sequence_space expected) PeerWindow send_blocker e
+reason_is expected CongestionWindow send_blocker e = told_is (expects_no_sequence_space expected) CongestionWindow send_blocker e
+reason_is expected PartOfSegment send_blocker e = told_is (expects_no_sequence_space expected) PartOfSegment send_blocker e
+reason_is expected Nagle send_blocker e = told_is (expects_no_sequence_space expected) Nagle send_blocker e
+reason_is expected Open send_blocker e = told_is (expects_no_sequence_space expected) Open send_blocker e
 
 unreset : (b : Bool) (x send_blocker : SendBlocker) → Reset ≢ send_blocker → (if b then Reset else x) ≡ send_blocker → x ≡ send_blocker
 unreset true x send_blocker is_reset h = absurd (is_reset h)

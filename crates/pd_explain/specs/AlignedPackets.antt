@@ -11,8 +11,8 @@ use Rattle.pd_print.specs.Packets.{arrow, event_text, flags_text, octets_text, n
 use Rattle.pd_print.specs.declared.packet_texts.Direction.TheVariants.{Outbound}
 
 -- the time of a moment from the base; `*` where it lies before that, which no written time can express
-abbrev pub relative_time_or_any : ℕ → ℕ → Time
-relative_time_or_any base at = if nat_le base at then Relative (at - base) else Any
+abbrev pub relative_or_any_time_from_base : ℕ → ℕ → Time
+relative_or_any_time_from_base base at = if nat_le base at then Relative (at - base) else Any
 
 -- a moment as a comment
 abbrev pub comment_of : ℕ → List ℕ
@@ -20,7 +20,7 @@ comment_of at = codes " // " ++ fixed_seconds_text at
 
 -- a packet that was sent as an event that happened, with its moment in a comment
 abbrev pub sent_text : ℕ → Sent → List ℕ
-sent_text base sent = event_text (relative_time_or_any base sent.at) Outbound (packet_of sent.segment) ++ comment_of sent.at
+sent_text base sent = event_text (relative_or_any_time_from_base base sent.at) Outbound (packet_of sent.segment) ++ comment_of sent.at
 
 -- a part and what follows it: with blanks between them where another part is wider, up to 40 octets, and something follows
 abbrev pub pad_part_before_rest : List ℕ → List ℕ → List ℕ → List ℕ

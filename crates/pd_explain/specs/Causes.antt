@@ -5,7 +5,7 @@ use Rattle.pd_script.specs.declared.script_events.Event.{Event}
 use Rattle.pd_run.specs.declared.stop_point.StopPoint.{StopPoint}
 use Rattle.pd_explain.specs.Failures.{is_failure, IsFailureOf}
 use Rattle.pd_explain.specs.Parts.{part_of}
-use Rattle.pd_explain.specs.Rules.{event_rule}
+use Rattle.pd_explain.specs.Rules.{rule_that_stopped_run_at_event}
 use Rattle.pd_explain.specs.RuleViolations.{IsRuleViolation}
 use Rattle.pd_explain.specs.declared.causes.Cause.{Cause}
 use Rattle.pd_explain.specs.declared.causes.Cause.TheVariants as cause
@@ -18,7 +18,7 @@ use Rattle.pd_explain.specs.declared.dropped.DroppedSegment.{DroppedSegment}
 abbrev pub IsCauseOf : List (List ℕ) → Place → Event → StopPoint → Cause → Type 0
 IsCauseOf lines place e stop (cause.Failed f) = (time : List ℕ) × IsFailureOf time e stop f
 IsCauseOf lines place e stop (cause.Rule violation) =
-    let rule = event_rule e stop in
+    let rule = rule_that_stopped_run_at_event e stop in
     (is_failure stop.stop_reason ≡ false) × IsRuleViolation lines place (part_of rule e) rule violation
 IsCauseOf lines place e stop (cause.Syntax refusal) = ⊥
 

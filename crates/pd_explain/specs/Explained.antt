@@ -15,11 +15,11 @@ use Rattle.pd_run.specs.declared.stop_point.StopPoint.{StopPoint}
 use Rattle.pd_run.specs.declared.verdict.Verdict.{Verdict}
 use Rattle.pd_run.specs.declared.verdict.Verdict.TheVariants as verdict
 use Rattle.pd_explain.specs.Causes.{IsCauseOf}
-use Rattle.pd_explain.specs.Dropped.{dropped_before_stop}
+use Rattle.pd_explain.specs.Dropped.{last_dropped_segments_if_packet_stop}
 use Rattle.pd_explain.specs.Failures.{sender_at}
 use Rattle.pd_explain.specs.Origins.{AreOrigins}
-use Rattle.pd_explain.specs.Parts.{header_part, event_place}
-use Rattle.pd_explain.specs.Rules.{header_rule}
+use Rattle.pd_explain.specs.Parts.{rule_part_of_header_item, place_of_event_after_passed}
+use Rattle.pd_explain.specs.Rules.{unsupported_header_item_rule}
 use Rattle.pd_explain.specs.RuleViolations.{IsRuleViolation}
 use Rattle.pd_explain.specs.declared.causes.Cause.{Cause}
 use Rattle.pd_explain.specs.declared.causes.Cause.TheVariants as cause
@@ -33,8 +33,8 @@ line_unless_pass (verdict.Unsupported line) = Some line
 line_unless_pass (verdict.Limit line) = Some line
 
 -- the first header item that isn't run
-abbrev pub first_unsupported_item : List HeaderItem → Option HeaderItem
-first_unsupported_item items = find (λ item. is_none (tolerance_in item)) items
+abbrev pub first_unsupported_header_item : List HeaderItem → Option HeaderItem
+first_unsupported_header_item items = find (λ item. is_none (tolerance_in item)) items
 
 -- the run of a script stops on a line at this event, which gives the verdict
 pub record StopsAt (line : ℕ) (settings : Settings) (parsed : Parsed) (v : Verdict) (e : Event) (stop : StopPoint) : Type 0 where
@@ -47,24 +47,24 @@ pub record StopsAt (line : ℕ) (settings : Settings) (parsed : Parsed) (v : Ver
 abbrev pub HasHistory : Settings → Parsed → StopPoint → Cause → Type 0
 HasHistory settings parsed stop (cause.Failed f) =
     AreOrigins settings parsed stop.passed (sender_at stop.before stop.stop_reason).state.endpoint.outbox f.origins.items
-    × (f.dropped.items ≡ dropped_before_stop settings parsed stop)
+    × (f.dropped.items ≡ last_dropped_segments_if_packet_stop settings parsed stop)
 HasHistory settings parsed stop _ = Unit {0}
 
 -- the report of a header item that isn't run: its rule, with the item
 abbrev pub IsHeaderCause : List (List ℕ) → HeaderKind → Cause → Type 0
-IsHeaderCause lines kind (cause.Rule violation) = IsRuleViolation lines first_place (header_part kind) (header_rule kind) violation
+IsHeaderCause lines kind (cause.Rule violation) = IsRuleViolation lines first_place (rule_part_of_header_item kind) (unsupported_header_item_rule kind) violation
 IsHeaderCause lines kind _ = ⊥
 
 -- the report of a script whose run comes to a verdict at a line: the rule of the first header item that isn't run, or the
 -- cause of the stop
 abbrev pub IsCauseIn : List (List ℕ) → ℕ → Settings → Parsed → Verdict → Cause → Type 0
-IsCauseIn lines line settings parsed v reported = by_header (first_unsupported_item parsed.header.items)
+IsCauseIn lines line settings parsed v reported = by_header (first_unsupported_header_item parsed.header.items)
   where
     by_header : Option HeaderItem → Type 0
     by_header (Some item) = IsHeaderCause lines item.kind reported
     by_header None =
         (e : Event) × (stop : StopPoint) × StopsAt line settings parsed v e stop
-        × IsCauseOf lines (event_place (reading_of lines) stop.passed) e stop reported
+        × IsCauseOf lines (place_of_event_after_passed (reading_of lines) stop.passed) e stop reported
         × HasHistory settings parsed stop reported
 
 -- a text is refused, and nothing else is reported

@@ -15,7 +15,7 @@ use Rattle.pd_run.specs.declared.prechecks.Precheck.TheVariants.{Backwards}
 use Rattle.pd_run.specs.declared.stop_point.StopPoint.{StopPoint}
 use Rattle.pd_run.specs.declared.stop_reason.StopReason.{StopReason}
 use Rattle.pd_run.specs.declared.stop_reason.StopReason.TheVariants as stop_reason
-use Rattle.pd_explain.specs.AlignedPackets.{relative_time_or_any, comment_of, align_packet_to_other}
+use Rattle.pd_explain.specs.AlignedPackets.{relative_or_any_time_from_base, comment_of, align_packet_to_other}
 use Rattle.pd_explain.specs.Outlook.{IsOutlook}
 use Rattle.pd_explain.specs.SenderSnapshots.{snapshot_of, reason_of}
 use Rattle.pd_explain.specs.Escape.{escaped}
@@ -43,8 +43,8 @@ sender_at before _ = before.host
 -- the expected packet, whose time is shown so, and the one that was sent, one below the other
 abbrev pub ShowsPackets : List ℕ → Action → Sent → ℕ → WrongPacket → Type 0
 ShowsPackets time (Outbound p) sent base c =
-    (c.script.items ≡ align_packet_to_other time p (time_text (relative_time_or_any base sent.at)) (packet_of sent.segment))
-    × (c.actual.items ≡ align_packet_to_other (time_text (relative_time_or_any base sent.at)) (packet_of sent.segment) time p ++ comment_of sent.at)
+    (c.script.items ≡ align_packet_to_other time p (time_text (relative_or_any_time_from_base base sent.at)) (packet_of sent.segment))
+    × (c.actual.items ≡ align_packet_to_other (time_text (relative_or_any_time_from_base base sent.at)) (packet_of sent.segment) time p ++ comment_of sent.at)
 ShowsPackets time _ sent base c = Unit {0}
 
 -- the report of the event, whose time is written so, by why it stopped the run

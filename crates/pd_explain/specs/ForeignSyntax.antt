@@ -5,8 +5,8 @@ use Rattle.pd_explain.specs.declared.refusals.foreign_syntax.ForeignSyntax.{Fore
 use Rattle.pd_explain.specs.declared.refusals.foreign_syntax.ForeignSyntax.TheVariants.{ByteOrderMark, Hash, Semicolon, AnyResult, EcnBits}
 
 -- by the first octet, after a symbol of this octet
-abbrev pub foreign_syntax_of : ℕ → ℕ → Option ForeignSyntax
-foreign_syntax_of after octet =
+abbrev pub foreign_syntax_of_octet_after : ℕ → ℕ → Option ForeignSyntax
+foreign_syntax_of_octet_after after octet =
     if octet == sign "#" then Some Hash
     else (if octet == sign ";" then Some Semicolon
     else (if (octet == sign "?") && (after == sign "=") then Some AnyResult
@@ -21,4 +21,4 @@ is_mark _ = false
 -- the foreign syntax with which octets begin, after a symbol of this octet
 abbrev pub foreign_syntax_at : ℕ → List ℕ → Option ForeignSyntax
 foreign_syntax_at after [] = None
-foreign_syntax_at after (octet ∷ octets) = if is_mark (octet ∷ octets) then Some ByteOrderMark else foreign_syntax_of after octet
+foreign_syntax_at after (octet ∷ octets) = if is_mark (octet ∷ octets) then Some ByteOrderMark else foreign_syntax_of_octet_after after octet

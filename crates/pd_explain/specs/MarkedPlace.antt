@@ -7,5 +7,5 @@ abbrev pub is_lacking : Place → Place → Bool → Bool → Bool
 is_lacking refused before begins_event is_whole = (begins_event && not is_whole) && nat_lt before.line refused.line
 
 -- so the mark stands where the token before it ends; else where the refused token begins
-abbrev pub place_marked : Place → Place → Bool → Bool → Place
-place_marked refused before begins_event is_whole = if is_lacking refused before begins_event is_whole then before else refused
+abbrev pub mark_before_if_event_incomplete : Place → Place → Bool → Bool → Place
+mark_before_if_event_incomplete refused before begins_event is_whole = if is_lacking refused before begins_event is_whole then before else refused

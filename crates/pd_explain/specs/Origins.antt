@@ -13,7 +13,7 @@ use Rattle.pd_host.specs.declared.halts.Halt.{Halt}
 use Rattle.pd_run.specs.Prechecks.{failed_precheck}
 use Rattle.pd_run.specs.Laws.{unmatched}
 use Rattle.pd_run.specs.Run.{start_of, states_from}
-use Rattle.pd_run.specs.Step.{RunStateView, on_step, comparison_noted, action_time, arrives, answers, awaited}
+use Rattle.pd_run.specs.Step.{RunStateView, on_step, comparison_noted, action_time_not_before_clock, arrives, answers, awaited}
 use Rattle.pd_explain.specs.declared.origins.Origin.{Origin}
 use Rattle.pd_explain.specs.declared.origins.Origin.TheVariants.{Line, Timer}
 
@@ -27,13 +27,13 @@ awaits_packet (Outbound p) = true
 awaits_packet _ = false
 
 -- how many packets an event takes that passes: one where it awaits one
-abbrev pub packets_matched_by : Event → ℕ
-packets_matched_by e = if awaits_packet e.action then 1 else 0
+abbrev pub count_packets_matched_by : Event → ℕ
+count_packets_matched_by e = if awaits_packet e.action then 1 else 0
 
 -- how many packets so many events take that pass
 abbrev pub taken_by : List Event → ℕ
 taken_by [] = 0
-taken_by (e ∷ es) = packets_matched_by e + taken_by es
+taken_by (e ∷ es) = count_packets_matched_by e + taken_by es
 
 -- the packets that nobody has taken in the state that came, where one did, else those of before
 abbrev pub packets_in : List Sent → Result SenderState Halt → List Sent
@@ -48,7 +48,7 @@ packets_after before (Err halt) = before
 -- those where all expiries up to an event's moment are over, or the one that it awaits
 abbrev pub put_out_by_timer : RunStateView → Event → Action → List Sent
 put_out_by_timer r e (Outbound p) = on_step unmatched (λ w. unmatched r) (awaited (comparison_noted r) e)
-put_out_by_timer r e _ = packets_in (unmatched r) (advanced (action_time r e) r.host.state)
+put_out_by_timer r e _ = packets_in (unmatched r) (advanced (action_time_not_before_clock r e) r.host.state)
 
 -- those where what the event's own input leads to is over too, and none is taken yet
 abbrev pub put_out_by_input : RunStateView → Event → Action → List Sent

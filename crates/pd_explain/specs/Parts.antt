@@ -137,14 +137,14 @@ is_code sign_is.Code = true
 is_code _ = false
 
 -- an option of the header, but for a tolerance within its limit
-abbrev pub is_header_option : TokenRole → Bool
-is_header_option sign_is.HeaderOption = true
-is_header_option _ = false
+abbrev pub is_unsupported_header_option : TokenRole → Bool
+is_unsupported_header_option sign_is.HeaderOption = true
+is_unsupported_header_option _ = false
 
 -- `<`
-abbrev pub is_arrow : TokenRole → Bool
-is_arrow sign_is.Arrow = true
-is_arrow _ = false
+abbrev pub is_inbound_arrow : TokenRole → Bool
+is_inbound_arrow sign_is.Arrow = true
+is_inbound_arrow _ = false
 
 -- `:`
 abbrev pub is_colon : TokenRole → Bool
@@ -157,9 +157,9 @@ is_comma sign_is.Comma = true
 is_comma _ = false
 
 -- `(`
-abbrev pub is_parenthesis : TokenRole → Bool
-is_parenthesis sign_is.Parenthesis = true
-is_parenthesis _ = false
+abbrev pub is_opening_parenthesis : TokenRole → Bool
+is_opening_parenthesis sign_is.Parenthesis = true
+is_opening_parenthesis _ = false
 
 -- `ack`
 abbrev pub is_ack : TokenRole → Bool
@@ -199,23 +199,23 @@ depth_after n sign_is.Closing = n - 1
 depth_after n _ = n
 
 -- how many commas came where one bracket was open
-abbrev pub commas_after : ℕ → ℕ → TokenRole → ℕ
-commas_after depth n sign_is.Comma = if depth == 1 then capped_increment n else n
-commas_after depth n _ = n
+abbrev pub commas_at_depth_one_after : ℕ → ℕ → TokenRole → ℕ
+commas_at_depth_one_after depth n sign_is.Comma = if depth == 1 then capped_increment n else n
+commas_at_depth_one_after depth n _ = n
 
 -- how many colons came since the last `sack`
-abbrev pub colons_after : ℕ → TokenRole → ℕ
-colons_after n sign_is.Sack = 0
-colons_after n sign_is.Colon = capped_increment n
-colons_after n _ = n
+abbrev pub colons_since_sack_after : ℕ → TokenRole → ℕ
+colons_since_sack_after n sign_is.Sack = 0
+colons_since_sack_after n sign_is.Colon = capped_increment n
+colons_since_sack_after n _ = n
 
 -- before the token after this one
 abbrev pub after_role : Nesting → TokenRole → Nesting
 after_role b s = record {
   last = s;
   depth = depth_after b.depth s;
-  commas = commas_after b.depth b.commas s;
-  colons = colons_after b.colons s;
+  commas = commas_at_depth_one_after b.depth b.commas s;
+  colons = colons_since_sack_after b.colons s;
 }
 
 -- ---- parts
@@ -236,12 +236,12 @@ is_part part.First b s = true
 is_part part.Dots b s = is_dots s
 is_part part.Command b s = is_command s
 is_part part.Code b s = is_code s
-is_part part.HeaderOption b s = is_header_option s
+is_part part.HeaderOption b s = is_unsupported_header_option s
 is_part part.Word b s = is_word s
-is_part part.Arrow b s = is_arrow s
+is_part part.Arrow b s = is_inbound_arrow s
 is_part part.Start b s = can_end_flags b.last && is_whole_number s
 is_part part.End b s = is_colon b.last
-is_part part.Length b s = is_parenthesis b.last
+is_part part.Length b s = is_opening_parenthesis b.last
 is_part part.AckNumber b s = is_ack b.last
 is_part part.Window b s = is_win b.last
 is_part part.Options b s = is_named_option s
@@ -260,8 +260,8 @@ found p b (ending line ∷ ts) = None
 found p b (bad line ∷ ts) = None
 
 -- where the first such part from a place on begins; that place where there is none
-abbrev pub place_of_part : RulePart → List (List ℕ) → Place → Place
-place_of_part p lines from = unwrap_or (found p before_first_token (items lines from)) from
+abbrev pub place_of_part_or_from : RulePart → List (List ℕ) → Place → Place
+place_of_part_or_from p lines from = unwrap_or (found p before_first_token (items lines from)) from
 
 -- ---- the parts that rules are about
 
@@ -270,63 +270,63 @@ abbrev pub overlong_time_part : Event → RulePart
 overlong_time_part e = if list_any is_long (written_times e.time) then part.First else part.Dots
 
 -- a number over its limit; a full outbox is about the event
-abbrev pub number_part : LimitedNumber → Event → RulePart
-number_part number.Time e = overlong_time_part e
-number_part number.Start e = part.Start
-number_part number.End e = part.End
-number_part number.Ack e = part.AckNumber
-number_part number.Window e = part.Window
-number_part number.Options e = part.Options
-number_part number.Mss e = part.LargeMss
-number_part number.Shift e = part.LargeShift
-number_part number.Blocks e = part.FifthBlock
-number_part number.Edge e = part.LargeEdge
-number_part number.Write e = part.ThirdArgument
-number_part number.Outbox e = part.First
+abbrev pub part_of_number_over_limit : LimitedNumber → Event → RulePart
+part_of_number_over_limit number.Time e = overlong_time_part e
+part_of_number_over_limit number.Start e = part.Start
+part_of_number_over_limit number.End e = part.End
+part_of_number_over_limit number.Ack e = part.AckNumber
+part_of_number_over_limit number.Window e = part.Window
+part_of_number_over_limit number.Options e = part.Options
+part_of_number_over_limit number.Mss e = part.LargeMss
+part_of_number_over_limit number.Shift e = part.LargeShift
+part_of_number_over_limit number.Blocks e = part.FifthBlock
+part_of_number_over_limit number.Edge e = part.LargeEdge
+part_of_number_over_limit number.Write e = part.ThirdArgument
+part_of_number_over_limit number.Outbox e = part.First
 
 -- a shape that isn't run
-abbrev pub shape_part : UnsupportedShape → RulePart
-shape_part shape.HeaderOption = part.HeaderOption
-shape_part shape.HeaderCommand = part.Command
-shape_part shape.Blocking = part.Dots
-shape_part shape.Command = part.Command
-shape_part shape.Code = part.Code
-shape_part shape.InboundTime = part.First
-shape_part shape.CallTime = part.First
-shape_part shape.Flag = part.Word
-shape_part shape.CallName = part.Word
-shape_part shape.CallShape = part.Word
+abbrev pub part_of_unsupported_shape : UnsupportedShape → RulePart
+part_of_unsupported_shape shape.HeaderOption = part.HeaderOption
+part_of_unsupported_shape shape.HeaderCommand = part.Command
+part_of_unsupported_shape shape.Blocking = part.Dots
+part_of_unsupported_shape shape.Command = part.Command
+part_of_unsupported_shape shape.Code = part.Code
+part_of_unsupported_shape shape.InboundTime = part.First
+part_of_unsupported_shape shape.CallTime = part.First
+part_of_unsupported_shape shape.Flag = part.Word
+part_of_unsupported_shape shape.CallName = part.Word
+part_of_unsupported_shape shape.CallShape = part.Word
 
 -- an input that isn't run in the sender's state: the call's name, or of a packet what makes it so
-abbrev pub input_part : UnsupportedInput → RulePart
-input_part input.SecondSocket = part.Word
-input_part input.ListenerClose = part.Word
-input_part input.NotListening = part.Arrow
-input_part input.NotSyn = part.Arrow
-input_part input.SmallMss = part.OfferedMss
-input_part input.Payload = part.Length
-input_part input.SecondSyn = part.Word
-input_part input.StrayFin = part.Word
-input_part input.AfterReset = part.Arrow
-input_part input.AfterFins = part.Arrow
+abbrev pub part_of_unsupported_input : UnsupportedInput → RulePart
+part_of_unsupported_input input.SecondSocket = part.Word
+part_of_unsupported_input input.ListenerClose = part.Word
+part_of_unsupported_input input.NotListening = part.Arrow
+part_of_unsupported_input input.NotSyn = part.Arrow
+part_of_unsupported_input input.SmallMss = part.OfferedMss
+part_of_unsupported_input input.Payload = part.Length
+part_of_unsupported_input input.SecondSyn = part.Word
+part_of_unsupported_input input.StrayFin = part.Word
+part_of_unsupported_input input.AfterReset = part.Arrow
+part_of_unsupported_input input.AfterFins = part.Arrow
 
 -- the part of an event that the rule which stops a script there is about
 abbrev pub part_of : Rule → Event → RulePart
-part_of (Over n) e = number_part n e
-part_of (NotRun s) e = shape_part s
-part_of (NotTaken i) e = input_part i
+part_of (Over n) e = part_of_number_over_limit n e
+part_of (NotRun s) e = part_of_unsupported_shape s
+part_of (NotTaken i) e = part_of_unsupported_input i
 
 -- the part of a header item that the rule which stops it there is about
-abbrev pub header_part : HeaderKind → RulePart
-header_part header.Command = part.Command
-header_part _ = part.HeaderOption
+abbrev pub rule_part_of_header_item : HeaderKind → RulePart
+rule_part_of_header_item header.Command = part.Command
+rule_part_of_header_item _ = part.HeaderOption
 
 -- ---- places
 
 -- where the event of a text stands that comes after so many others: at the token after those, the first one after the header
-abbrev pub event_place : ReadingView → ℕ → Place
-event_place r zero = r.header.end
-event_place r (suc n) = option_map_or (λ (d : ParsedEvent). d.after) (slice_get r.events n) r.header.end
+abbrev pub place_of_event_after_passed : ReadingView → ℕ → Place
+place_of_event_after_passed r zero = r.header.end
+place_of_event_after_passed r (suc n) = option_map_or (λ (d : ParsedEvent). d.after) (slice_get r.events n) r.header.end
 
 -- a line of a text, counted from 1; nothing outside of it
 abbrev pub line_or_empty : List (List ℕ) → ℕ → List ℕ

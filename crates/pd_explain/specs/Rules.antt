@@ -20,15 +20,15 @@ use Rattle.pd_script.specs.declared.timing.Time.{Time}
 use Rattle.pd_script.specs.declared.timing.BlockingEnd.{BlockingEnd}
 use Rattle.pd_seg.specs.declared.segments.Segment.{Segment}
 use Rattle.pd_host.specs.ConnStates.{state_of, is_closed}
-use Rattle.pd_host.specs.Arrivals.{is_stray_fin, check_contents}
+use Rattle.pd_host.specs.Arrivals.{has_in_window_fin_out_of_order, failed_check_if_contents_unsupported}
 use Rattle.pd_host.specs.Connection.{ConnectionView}
-use Rattle.pd_host.specs.Handshake.{is_listening, is_syn_alone, is_peer_mss_supported, can_begin_connection, length_of, offered_mss}
+use Rattle.pd_host.specs.Handshake.{is_listening, is_syn_alone, is_peer_mss_supported, is_supported_syn_for_listener, length_of, offered_mss}
 use Rattle.pd_host.specs.Syscalls.{syscall_of}
 use Rattle.pd_host.specs.declared.halts.Halt.TheVariants as halt
 use Rattle.pd_host.specs.declared.descriptors.ListenState.{ListenState}
 use Rattle.pd_host.specs.declared.endpoint.SenderState.{SenderState}
 use Rattle.pd_run.specs.InboundSegment.{segment_in}
-use Rattle.pd_run.specs.Limits.{written_times, written_blocking_end, is_long, is_block_over, is_action_over, is_over_limit}
+use Rattle.pd_run.specs.Limits.{written_times, written_blocking_end, is_long, is_block_over, is_action_number_over_limit, is_any_event_number_over_limit}
 use Rattle.pd_run.specs.Supported.{is_shape_supported}
 use Rattle.pd_run.specs.Times.{is_single_moment}
 use Rattle.pd_run.specs.declared.stop_point.StopPoint.{StopPoint}
@@ -44,9 +44,9 @@ use Rattle.pd_explain.specs.declared.rules.unsupported_shapes.UnsupportedShape.{
 use Rattle.pd_explain.specs.declared.rules.unsupported_shapes.UnsupportedShape.TheVariants as shape
 
 -- of a header item that isn't run
-abbrev pub header_rule : HeaderKind → Rule
-header_rule header.Command = NotRun shape.HeaderCommand
-header_rule _ = NotRun shape.HeaderOption
+abbrev pub unsupported_header_item_rule : HeaderKind → Rule
+unsupported_header_item_rule header.Command = NotRun shape.HeaderCommand
+unsupported_header_item_rule _ = NotRun shape.HeaderOption
 
 -- Numbers over their limits
 
@@ -112,7 +112,7 @@ number_over_in_packet p =
 abbrev pub number_over_in_action : Action → Option LimitedNumber
 number_over_in_action (action.Inbound p) = number_over_in_packet p
 number_over_in_action (action.Outbound p) = number_over_in_packet p
-number_over_in_action (action.Call call) = where_so (is_action_over (action.Call call)) number.Write
+number_over_in_action (action.Call call) = where_so (is_action_number_over_limit (action.Call call)) number.Write
 number_over_in_action _ = None
 
 -- the first number of an event that is over its limit
@@ -121,7 +121,7 @@ first_number_over_limit e = if is_some_long e.time e.blocking_end then Some numb
 
 -- a law: there is such a number exactly where one is over its limit
 abbrev pub LimitsHaveNumbers : Type 0
-LimitsHaveNumbers = (e : Event) → is_some (first_number_over_limit e) ≡ is_over_limit e
+LimitsHaveNumbers = (e : Event) → is_some (first_number_over_limit e) ≡ is_any_event_number_over_limit e
 
 -- Shapes that aren't run
 
@@ -131,30 +131,30 @@ is_known function.Unknown = false
 is_known _ = true
 
 -- of a call
-abbrev pub call_shape : Call → Option UnsupportedShape
-call_shape call =
+abbrev pub find_unsupported_shape_of_call : Call → Option UnsupportedShape
+find_unsupported_shape_of_call call =
     if is_some (syscall_of call) then None
     else Some (if is_known call.function then shape.CallShape else shape.CallName)
 
 -- of a packet
-abbrev pub packet_shape : Packet → Option UnsupportedShape
-packet_shape p = if p.flags.other then Some shape.Flag else None
+abbrev pub find_unsupported_shape_by_packet_flags : Packet → Option UnsupportedShape
+find_unsupported_shape_by_packet_flags p = if p.flags.other then Some shape.Flag else None
 
 -- of an action at a time
-abbrev pub action_shape : Time → Action → Option UnsupportedShape
-action_shape time (action.Inbound p) = if not (is_single_moment time) then Some shape.InboundTime else packet_shape p
-action_shape time (action.Outbound p) = packet_shape p
-action_shape time (action.Call call) = if not (is_single_moment time) then Some shape.CallTime else call_shape call
-action_shape time action.Command = Some shape.Command
-action_shape time action.Code = Some shape.Code
+abbrev pub find_unsupported_shape_of_action : Time → Action → Option UnsupportedShape
+find_unsupported_shape_of_action time (action.Inbound p) = if not (is_single_moment time) then Some shape.InboundTime else find_unsupported_shape_by_packet_flags p
+find_unsupported_shape_of_action time (action.Outbound p) = find_unsupported_shape_by_packet_flags p
+find_unsupported_shape_of_action time (action.Call call) = if not (is_single_moment time) then Some shape.CallTime else find_unsupported_shape_of_call call
+find_unsupported_shape_of_action time action.Command = Some shape.Command
+find_unsupported_shape_of_action time action.Code = Some shape.Code
 
 -- the first rule by which an event isn't run, whatever the sender's state
-abbrev pub shape_rule : Event → Option UnsupportedShape
-shape_rule e = if is_some e.blocking_end then Some shape.Blocking else action_shape e.time e.action
+abbrev pub find_unsupported_shape_of_event : Event → Option UnsupportedShape
+find_unsupported_shape_of_event e = if is_some e.blocking_end then Some shape.Blocking else find_unsupported_shape_of_action e.time e.action
 
 -- a law: there is such a rule exactly where an event isn't run
 abbrev pub ShapesHaveRules : Type 0
-ShapesHaveRules = (e : Event) → is_some (shape_rule e) ≡ not (is_shape_supported e)
+ShapesHaveRules = (e : Event) → is_some (find_unsupported_shape_of_event e) ≡ not (is_shape_supported e)
 
 -- The inputs that a sender that halts doesn't run in its state
 
@@ -163,8 +163,8 @@ abbrev pub is_exactly_syn : Segment → Bool
 is_exactly_syn segment = is_syn_alone segment.flags && (segment.start == 0 && length_of segment == 0)
 
 -- of a first segment
-abbrev pub first_segment_rule : ListenState → Segment → UnsupportedInput
-first_segment_rule listener segment =
+abbrev pub unsupported_first_segment_rule : ListenState → Segment → UnsupportedInput
+unsupported_first_segment_rule listener segment =
     if not (is_listening listener) then NotListening
     else (if is_exactly_syn segment then SmallMss else NotSyn)
 
@@ -179,16 +179,16 @@ HoldsOfFirst _ _ _ = ⊥
 abbrev pub OpeningsHaveRules : Type 0
 OpeningsHaveRules =
     (listener : ListenState) (segment : Segment)
-    → can_begin_connection listener segment ≡ false
-    → HoldsOfFirst listener segment (first_segment_rule listener segment)
+    → is_supported_syn_for_listener listener segment ≡ false
+    → HoldsOfFirst listener segment (unsupported_first_segment_rule listener segment)
 
 -- a connection is closed
 abbrev pub is_closed_by : ConnectionView → Bool
 is_closed_by c = is_closed (state_of c)
 
 -- of a segment on a connection: where it has neither data nor a SYN, and the connection goes on, its FIN is out of place
-abbrev pub connection_segment_rule : ConnectionView → Segment → UnsupportedInput
-connection_segment_rule c segment =
+abbrev pub why_connection_segment_is_unsupported : ConnectionView → Segment → UnsupportedInput
+why_connection_segment_is_unsupported c segment =
     if nat_lt 0 (length_of segment) then Payload
     else (if segment.flags.syn then SecondSyn
     else (if not (is_closed_by c) then StrayFin
@@ -198,7 +198,7 @@ connection_segment_rule c segment =
 abbrev pub HoldsOn : ConnectionView → Segment → UnsupportedInput → Type 0
 HoldsOn _ segment Payload = nat_lt 0 (length_of segment) ≡ true
 HoldsOn _ segment SecondSyn = segment.flags.syn ≡ true
-HoldsOn c segment StrayFin = is_stray_fin c segment ≡ true
+HoldsOn c segment StrayFin = has_in_window_fin_out_of_order c segment ≡ true
 HoldsOn c _ AfterReset = c.is_reset ≡ true
 HoldsOn c _ AfterFins = (is_closed_by c ≡ true) × (c.is_reset ≡ false)
 HoldsOn _ _ _ = ⊥
@@ -207,16 +207,16 @@ HoldsOn _ _ _ = ⊥
 abbrev pub ContentsHaveRules : Type 0
 ContentsHaveRules =
     (c : ConnectionView) (segment : Segment)
-    → is_some (check_contents c segment) ≡ true
-    → HoldsOn c segment (connection_segment_rule c segment)
+    → is_some (failed_check_if_contents_unsupported c segment) ≡ true
+    → HoldsOn c segment (why_connection_segment_is_unsupported c segment)
 
 -- of a segment, by whether a connection was begun
-abbrev pub arrival_rule : SenderState → Segment → UnsupportedInput
-arrival_rule s segment = by s.endpoint.connection
+abbrev pub unsupported_arrival_rule : SenderState → Segment → UnsupportedInput
+unsupported_arrival_rule s segment = by s.endpoint.connection
   where
     by : Option ConnectionView → UnsupportedInput
-    by None = first_segment_rule s.endpoint.listener segment
-    by (Some c) = connection_segment_rule c segment
+    by None = unsupported_first_segment_rule s.endpoint.listener segment
+    by (Some c) = why_connection_segment_is_unsupported c segment
 
 -- of a call: the others answer
 abbrev pub unsupported_call_rule : Function → UnsupportedInput
@@ -224,10 +224,10 @@ unsupported_call_rule function.Socket = SecondSocket
 unsupported_call_rule _ = ListenerClose
 
 -- of an action
-abbrev pub input_rule : Action → SenderState → Option UnsupportedInput
-input_rule (action.Inbound p) s = Some (arrival_rule s (segment_in p))
-input_rule (action.Call call) s = Some (unsupported_call_rule call.function)
-input_rule _ s = None
+abbrev pub unsupported_input_of_halted_action : Action → SenderState → Option UnsupportedInput
+unsupported_input_of_halted_action (action.Inbound p) s = Some (unsupported_arrival_rule s (segment_in p))
+unsupported_input_of_halted_action (action.Call call) s = Some (unsupported_call_rule call.function)
+unsupported_input_of_halted_action _ s = None
 
 -- All of them
 
@@ -237,10 +237,10 @@ halt_rule (Halted halt.Unsupported) (Some input) = NotTaken input
 halt_rule _ _ = Over number.Outbox
 
 -- of an event that stops a run
-abbrev pub event_rule : Event → StopPoint → Rule
-event_rule e stop = by (first_number_over_limit e) (shape_rule e)
+abbrev pub rule_that_stopped_run_at_event : Event → StopPoint → Rule
+rule_that_stopped_run_at_event e stop = by (first_number_over_limit e) (find_unsupported_shape_of_event e)
   where
     by : Option LimitedNumber → Option UnsupportedShape → Rule
     by (Some n) _ = Over n
     by None (Some s) = NotRun s
-    by None None = halt_rule stop.stop_reason (input_rule e.action stop.before.host.state)
+    by None None = halt_rule stop.stop_reason (unsupported_input_of_halted_action e.action stop.before.host.state)

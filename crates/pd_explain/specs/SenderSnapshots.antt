@@ -17,12 +17,12 @@ abbrev pub snapshot_of : HostView → SenderSnapshot
 snapshot_of h = record { state = conn_state h.state; connection_snapshot = connection_snapshot_in h.state; expiry = deadline_of h.state }
 
 -- a packet is expected that has no octets: no data, SYN or FIN
-abbrev pub expects_no_octets : Action → Bool
-expects_no_octets (Outbound p) = (p.length == 0) && (not p.flags.syn && not p.flags.fin)
-expects_no_octets _ = false
+abbrev pub expects_no_sequence_space : Action → Bool
+expects_no_sequence_space (Outbound p) = (p.length == 0) && (not p.flags.syn && not p.flags.fin)
+expects_no_sequence_space _ = false
 
 -- why such a packet wasn't sent, by what holds the sender back
 abbrev pub reason_of : Action → SendBlocker → NotSentReason
 reason_of expected Reset = Held Reset
 reason_of expected NotEstablished = Held NotEstablished
-reason_of expected send_blocker = if expects_no_octets expected then NoOctets else Held send_blocker
+reason_of expected send_blocker = if expects_no_sequence_space expected then NoOctets else Held send_blocker

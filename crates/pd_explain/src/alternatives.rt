@@ -23,7 +23,7 @@ const CALLS: [Function; 8] = [
 ///
 /// # Errors
 /// `AllocError` where a growth is refused.
-pub fn alternatives_of(
+pub fn supported_alternatives_of_rule_at_event(
     alloc: Global,
     rule: Rule,
     event: &Event,

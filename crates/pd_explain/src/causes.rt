@@ -15,16 +15,18 @@ pub(crate) use self::failure::{
     ExpectedTime, Failure, MissingPacket, TimeBackwards, Unmatched, WrongPacket, WrongResult,
 };
 pub use self::failure::{Failed, SenderSnapshot};
-use self::find_failure::failure_at_stop;
-pub(crate) use self::find_failure::{run_at_stop, sender_snapshot_of};
-pub(crate) use self::outlook::{Outlook, applied_rto_bound, capped_computed_us, span_text};
-use self::source_text::source_text_at;
-pub(crate) use self::unmatched::list_unmatched;
+use self::find_failure::failure_unless_stopped_by_rule;
+pub(crate) use self::find_failure::{sender_snapshot_of, stored_run_of_stop};
+pub(crate) use self::outlook::{
+    Outlook, applied_rto_bound, computed_rto_us_capped_at_u64, span_text,
+};
+use self::source_text::raw_event_time_and_result_text;
+pub(crate) use self::unmatched::list_first_unmatched_after_skipped;
 use crate::dropped::DroppedSegment;
 use crate::origins::Origin;
 use crate::refusals::Refusal;
 use crate::rule_violation::{RuleViolation, violation_at_event};
-use crate::rules::event_rule;
+use crate::rules::rule_that_stopped_run_at_event;
 use pd_lex::Place;
 use pd_reparse::ParsedEvent;
 use pd_run::StopPoint;
@@ -56,11 +58,11 @@ pub fn cause_of_event_stop(
     ensures { IfOk result (IsCauseOf lines.now place parsed_event.now.event stop.now) }
 {
     let event = &parsed_event.event;
-    let source_text = source_text_at(alloc, lines, place, parsed_event.after)?;
-    match failure_at_stop(alloc, event, stop, source_text)? {
+    let source_text = raw_event_time_and_result_text(alloc, lines, place, parsed_event.after)?;
+    match failure_unless_stopped_by_rule(alloc, event, stop, source_text)? {
         Some(failure) => Ok(Cause::Failed(failure)),
         None => {
-            let rule = event_rule(event, stop);
+            let rule = rule_that_stopped_run_at_event(event, stop);
             Ok(Cause::Rule(violation_at_event(alloc, lines, place, event, rule)?))
         }
     }

@@ -2,19 +2,19 @@
 ghost use Rattle.std.specs.Prelude.{◌≡◌, ◌==◌, ◌<◌, ◌^◌, ◌+◌, ◌++◌, ◌∷◌, ◌||◌, [], false, true, None, nat_le, IfOk, IfSome, OnOk};
 ghost use Rattle.std.specs.List.{filter_map, list_any};
 ghost use Rattle.pd_host.specs.Expiries.{advanced};
-ghost use Rattle.pd_run.specs.Limits.{is_long, is_packet_over, written_times};
-ghost use Rattle.pd_run.specs.Step.{action_time};
+ghost use Rattle.pd_run.specs.Limits.{is_long, is_packet_number_over_limit, written_times};
+ghost use Rattle.pd_run.specs.Step.{action_time_not_before_clock};
 ghost use Rattle.pd_reparse.specs.Reading.{script_part};
-ghost use Rattle.pd_explain.specs.Dropped.{check_drops_segment, failed_check_after_expiries, dropped_in_event, dropped_before, dropped_segment_for_check, dropped_before_stop, last_dropped};
+ghost use Rattle.pd_explain.specs.Dropped.{is_check_that_drops_segment, failed_check_after_expiries, dropped_in_event, dropped_before, dropped_segment_if_check_drops, last_dropped_segments_if_packet_stop, last_dropped_segments_of_last_events};
 ghost use Rattle.pd_explain.specs.Inner.{IsResumed, Reaches};
 
-use crate::origins::{action_time, has_expiry_by};
+use crate::origins::{action_time_not_before_clock, has_expiry_by};
 use crate::resume::ResumedRun;
 use pd_host::{Host, HostEnd, SegmentCheck};
 use pd_reparse::Reading;
 use pd_run::{
-    Plain, RunState, StepEnd, Stepper, StopPoint, StopReason, failed_check_of, failed_precheck,
-    law_runs_are_bounded,
+    Plain, RunState, StepEnd, Stepper, StopPoint, StopReason, failed_check_of_arriving_packet,
+    failed_precheck, law_runs_stay_in_step_bounds,
 };
 use pd_script::{Action, Event, Packet};
 use pd_settings::Settings;
@@ -39,7 +39,7 @@ pub struct DroppedSegment {
 ///
 /// # Errors
 /// `AllocError` where a growth is refused.
-fn find_dropped(
+fn last_dropped_segments_before_event(
     alloc: Global,
     reading: &Reading,
     settings: &Settings,
@@ -52,9 +52,9 @@ fn find_dropped(
 {
     match resumed {
         Some(resumed) if resumes_early_enough(resumed.passed, passed) => {
-            dropped_by_resumed_run(alloc, reading, settings, resumed, passed)
+            last_dropped_segments_by_resumed_run(alloc, reading, settings, resumed, passed)
         }
-        _ => dropped_from_start(alloc, reading, settings, passed),
+        _ => last_dropped_segments_by_full_run(alloc, reading, settings, passed),
     }
 }
 
@@ -62,7 +62,7 @@ fn find_dropped(
 ///
 /// # Errors
 /// `AllocError` where a growth is refused.
-pub fn dropped_before_stop(
+pub fn last_dropped_segments_if_packet_stop(
     alloc: Global,
     reading: &Reading,
     settings: &Settings,
@@ -71,11 +71,11 @@ pub fn dropped_before_stop(
 ) -> Result<Vec<DroppedSegment>, AllocError>
     requires resumed { IfSome resumed (λ t. IsResumed settings.now (script_part reading.now) t.passed t.run) }
     requires reached { Reaches settings.now (script_part reading.now) stop.now.passed }
-    ensures { IfOk result (λ dropped. dropped.items ≡ dropped_before_stop settings.now (script_part reading.now) stop.now) }
+    ensures { IfOk result (λ dropped. dropped.items ≡ last_dropped_segments_if_packet_stop settings.now (script_part reading.now) stop.now) }
 {
     match stop.stop_reason {
         StopReason::Missing | StopReason::Differs(_, _, _) => {
-            find_dropped(alloc, reading, settings, resumed, stop.passed)
+            last_dropped_segments_before_event(alloc, reading, settings, resumed, stop.passed)
         }
         StopReason::FailedPrecheck(_) | StopReason::Halted(_) | StopReason::Answered(_, _) => Ok(
             Vec::new(alloc),
@@ -91,7 +91,7 @@ fn resumes_early_enough(begun: usize, passed: usize) -> bool
 }
 
 /// The same by a run from the first event.
-fn dropped_from_start(
+fn last_dropped_segments_by_full_run(
     alloc: Global,
     reading: &Reading,
     settings: &Settings,
@@ -100,9 +100,9 @@ fn dropped_from_start(
     requires reached { Reaches settings.now (script_part reading.now) passed }
     ensures { IfOk result (λ dropped. dropped.items ≡ dropped_before settings.now (script_part reading.now) passed) }
 {
-    law_runs_are_bounded();
+    law_runs_stay_in_step_bounds();
     match RunState::new(alloc, reading.header(), settings) {
-        Ok(run) => dropped_by_resumed_run(
+        Ok(run) => last_dropped_segments_by_resumed_run(
             alloc,
             reading,
             settings,
@@ -114,7 +114,7 @@ fn dropped_from_start(
 }
 
 /// The same by a run that is taken up.
-fn dropped_by_resumed_run(
+fn last_dropped_segments_by_resumed_run(
     alloc: Global,
     reading: &Reading,
     settings: &Settings,
@@ -126,24 +126,24 @@ fn dropped_by_resumed_run(
     requires early { ((resumed.passed == 0) || nat_le (resumed.passed + 16) passed) ≡ true }
     ensures { IfOk result (λ dropped. dropped.items ≡ dropped_before settings.now (script_part reading.now) passed) }
 {
-    law_runs_are_bounded();
+    law_runs_stay_in_step_bounds();
     let events = reading.events();
     let mut stepper = Plain::new();
     let mut dropped = Vec::new(alloc);
     let mut run = resumed.run;
     for number in resumed.passed..passed {
         let event = &events.at(number).event;
-        push_dropped_or_none(&mut dropped, &run, event)?;
+        push_segment_dropped_in_event(&mut dropped, &run, event)?;
         match stepper.step(&mut run, event, settings)? {
             StepEnd::Go => {}
             StepEnd::Stop(_) => unreachable!(),
         }
     }
-    last_dropped(alloc, dropped.as_slice())
+    last_dropped_segments_of_last_events(alloc, dropped.as_slice())
 }
 
 /// Notes the segment that is dropped in an event, or that none is.
-fn push_dropped_or_none(
+fn push_segment_dropped_in_event(
     dropped: &mut Vec<Option<DroppedSegment>>,
     run: &RunState,
     event: &Event,
@@ -170,7 +170,7 @@ fn dropped_in_event(run: &RunState, event: &Event) -> Result<Option<DroppedSegme
     match &event.action {
         Action::Inbound(packet) => {
             let failed_check = failed_check_in_event(run, event, packet)?;
-            Ok(dropped_segment_for_check(event.line, failed_check))
+            Ok(dropped_segment_if_check_drops(event.line, failed_check))
         }
         Action::Outbound(_) | Action::Call(_) | Action::Command | Action::Code => Ok(None),
     }
@@ -186,14 +186,14 @@ fn failed_check_in_event(
     requires clock { run.now.clock < 2 ^ 61 }
     requires base { run.now.base < 2 ^ 61 }
     requires short { list_any is_long (written_times event.now.time) ≡ false }
-    requires fits { is_packet_over packet.now ≡ false }
-    ensures { IfOk result (λ failed_check. failed_check ≡ failed_check_after_expiries packet.now (advanced (action_time run.now event.now) run.now.host.state)) }
+    requires fits { is_packet_number_over_limit packet.now ≡ false }
+    ensures { IfOk result (λ failed_check. failed_check ≡ failed_check_after_expiries packet.now (advanced (action_time_not_before_clock run.now event.now) run.now.host.state)) }
 {
-    let moment = action_time(run, event);
+    let moment = action_time_not_before_clock(run, event);
     if has_expiry_by(run, moment) {
         return failed_check_after_expiries(run.host(), packet, moment);
     }
-    failed_check_of(run.host(), packet)
+    failed_check_of_arriving_packet(run.host(), packet)
 }
 
 /// The same where expiries come before it.
@@ -204,25 +204,25 @@ fn failed_check_after_expiries(
 ) -> Result<Option<SegmentCheck>, AllocError>
     requires live { host.now.end_reason ≡ None }
     requires early { until < 2 ^ 62 }
-    requires fits { is_packet_over packet.now ≡ false }
+    requires fits { is_packet_number_over_limit packet.now ≡ false }
     ensures { IfOk result (λ failed_check. failed_check ≡ failed_check_after_expiries packet.now (advanced until host.now.state)) }
 {
     let mut host = host.copy()?;
     match host.advance(until) {
-        Ok(()) => failed_check_of(&host, packet),
+        Ok(()) => failed_check_of_arriving_packet(&host, packet),
         Err(HostEnd::Halted(_)) => Ok(None),
         Err(HostEnd::OutOfMemory) => Err(AllocError),
     }
 }
 
-fn dropped_segment_for_check(
+fn dropped_segment_if_check_drops(
     line: usize,
     failed_check: Option<SegmentCheck>,
 ) -> Option<DroppedSegment>
-    ensures { result ≡ dropped_segment_for_check line failed_check }
+    ensures { result ≡ dropped_segment_if_check_drops line failed_check }
 {
     match failed_check {
-        Some(failed_check) if check_drops_segment(failed_check) => Some(DroppedSegment {
+        Some(failed_check) if is_check_that_drops_segment(failed_check) => Some(DroppedSegment {
             line,
             failed_check,
         }),
@@ -231,8 +231,8 @@ fn dropped_segment_for_check(
 }
 
 /// Whether a check is one by which a segment counts for nothing.
-fn check_drops_segment(failed_check: SegmentCheck) -> bool
-    ensures { result ≡ check_drops_segment failed_check }
+fn is_check_that_drops_segment(failed_check: SegmentCheck) -> bool
+    ensures { result ≡ is_check_that_drops_segment failed_check }
 {
     match failed_check {
         SegmentCheck::StrayRst
@@ -248,11 +248,11 @@ fn check_drops_segment(failed_check: SegmentCheck) -> bool
 
 /// The last of the segments that were dropped in the last events.
 #[tactic(auto, using(crate::proofs::DroppedLemmas::filtered_more))]
-fn last_dropped(
+fn last_dropped_segments_of_last_events(
     alloc: Global,
     each: &[Option<DroppedSegment>],
 ) -> Result<Vec<DroppedSegment>, AllocError>
-    ensures { IfOk result (λ reported. reported.items ≡ last_dropped each.now) }
+    ensures { IfOk result (λ reported. reported.items ≡ last_dropped_segments_of_last_events each.now) }
 {
     let mut dropped = Vec::new(alloc);
     for event in &each[each.len().saturating_sub(MAX_EVENTS_BACK)..] {

@@ -33,11 +33,11 @@ fn hex_digit(value: u8) -> u8
 ///
 /// # Errors
 /// `AllocError` where a growth is refused.
-fn put_escaped(out: &mut Vec<u8>, octets: &[u8]) -> Result<(), AllocError>
+fn put_with_unprintables_as_hex(out: &mut Vec<u8>, octets: &[u8]) -> Result<(), AllocError>
     ensures { OnOk result (out.new.items ≡ out.old.items ++ escaped octets.now) }
 {
     for octet in octets {
-        put_escaped_octet(out, *octet)?;
+        put_octet_as_hex_unless_printable(out, *octet)?;
     }
     Ok(())
 }
@@ -50,11 +50,11 @@ pub(crate) fn escaped(alloc: Global, octets: &[u8]) -> Result<Vec<u8>, AllocErro
     ensures { IfOk result (λ text. text.items ≡ escaped octets.now) }
 {
     let mut text = Vec::new(alloc);
-    put_escaped(&mut text, octets)?;
+    put_with_unprintables_as_hex(&mut text, octets)?;
     Ok(text)
 }
 
-fn put_escaped_octet(out: &mut Vec<u8>, octet: u8) -> Result<(), AllocError>
+fn put_octet_as_hex_unless_printable(out: &mut Vec<u8>, octet: u8) -> Result<(), AllocError>
     ensures { OnOk result (out.new.items ≡ out.old.items ++ escaped_octet octet) }
 {
     if is_printable(octet) {
@@ -71,7 +71,7 @@ fn put_escaped_octet(out: &mut Vec<u8>, octet: u8) -> Result<(), AllocError>
 pub(crate) fn truncated(alloc: Global, line: &[u8]) -> Result<Vec<u8>, AllocError>
     ensures { IfOk result (λ cut. are_printable line.now ≡ true → are_printable cut.items ≡ true) }
 {
-    let (cut, _) = truncated_around(alloc, line, 0)?;
+    let (cut, _) = truncated_around_mark_and_new_column(alloc, line, 0)?;
     Ok(cut)
 }
 
@@ -79,7 +79,7 @@ pub(crate) fn truncated(alloc: Global, line: &[u8]) -> Result<Vec<u8>, AllocErro
 ///
 /// # Errors
 /// `AllocError` where a growth is refused.
-pub(crate) fn truncated_around(
+pub(crate) fn truncated_around_mark_and_new_column(
     alloc: Global,
     line: &[u8],
     mark: usize,
@@ -91,14 +91,14 @@ pub(crate) fn truncated_around(
     let mut cut = Vec::new(alloc);
     put_ellipsis_if_cut(&mut cut, start > 0)?;
     let column = mark.saturating_sub(start).saturating_add(cut.len());
-    append_part(&mut cut, clamped_part(line, start, end))?;
+    append_given_octets(&mut cut, clamped_part(line, start, end))?;
     put_ellipsis_if_cut(&mut cut, end < line.len())?;
     Ok((cut, column))
 }
 
 /// Adds a part of a line.
 #[tactic(auto, using(crate::proofs::EscapeLemmas::joined))]
-fn append_part(out: &mut Vec<u8>, clamped_part: &[u8]) -> Result<(), AllocError>
+fn append_given_octets(out: &mut Vec<u8>, clamped_part: &[u8]) -> Result<(), AllocError>
     ensures { OnOk result (are_printable out.old.items ≡ true → are_printable clamped_part.now ≡ true → are_printable out.new.items ≡ true) }
 {
     out.extend_from_slice(clamped_part)
@@ -109,7 +109,7 @@ fn put_ellipsis_if_cut(out: &mut Vec<u8>, is_cut: bool) -> Result<(), AllocError
     ensures { OnOk result (are_printable out.old.items ≡ true → are_printable out.new.items ≡ true) }
 {
     if is_cut {
-        append_part(out, b"..")?;
+        append_given_octets(out, b"..")?;
     }
     Ok(())
 }
@@ -132,7 +132,7 @@ fn truncation_start(line: &[u8], mark: usize) -> usize {
     }
     let wanted = mark.saturating_sub(BEFORE_MARK);
     let start = wanted.min(line.len().saturating_sub(MAX_PRINTED));
-    match torn_escape_start(line, start) {
+    match find_torn_escape_start(line, start) {
         Some(escape) => escape.saturating_add(ESCAPED),
         None => start,
     }
@@ -141,11 +141,11 @@ fn truncation_start(line: &[u8], mark: usize) -> usize {
 /// Where what is shown from a place on ends.
 fn truncation_end(line: &[u8], start: usize) -> usize {
     let end = start.saturating_add(MAX_PRINTED).min(line.len());
-    torn_escape_start(line, end).unwrap_or(end)
+    find_torn_escape_start(line, end).unwrap_or(end)
 }
 
 /// Where the `\xHH` begins that a cut before an octet would tear.
-fn torn_escape_start(line: &[u8], at: usize) -> Option<usize> {
+fn find_torn_escape_start(line: &[u8], at: usize) -> Option<usize> {
     for back in 1..ESCAPED {
         if at >= back && begins_with_escape(clamped_part(line, at - back, line.len())) {
             return Some(at - back);

@@ -5,18 +5,21 @@ ghost use Rattle.pd_run.specs.Run.{verdict_of};
 ghost use Rattle.pd_run.specs.StopPoints.{line_of, stop_in};
 ghost use Rattle.pd_script.specs.Script.{script_of};
 ghost use Rattle.pd_explain.specs.Causes.{IsCauseOf};
-ghost use Rattle.pd_explain.specs.Dropped.{dropped_before_stop};
-ghost use Rattle.pd_explain.specs.Explained.{line_unless_pass, first_unsupported_item, HasHistory, IsCauseIn, IsCause, IsHeaderCause};
+ghost use Rattle.pd_explain.specs.Dropped.{last_dropped_segments_if_packet_stop};
+ghost use Rattle.pd_explain.specs.Explained.{line_unless_pass, first_unsupported_header_item, HasHistory, IsCauseIn, IsCause, IsHeaderCause};
 ghost use Rattle.pd_explain.specs.Inner.{IsResumed, IsTraced, knows_all_origins};
 
 use crate::causes::{Cause, cause_of_event_stop, with_origins_and_dropped};
-use crate::dropped::{DroppedSegment, dropped_before_stop};
-use crate::parts::event_place;
-use crate::refusals::find_refusal;
-use crate::resume::{ResumedRun, TracedStop, resume_for_dropped, resume_for_origins, trace_stop};
+use crate::dropped::{DroppedSegment, last_dropped_segments_if_packet_stop};
+use crate::parts::place_of_event_after_passed;
+use crate::refusals::find_refused_token_and_expected;
+use crate::resume::{
+    ResumedRun, TracedStop, find_resume_point_for_dropped, find_resume_point_for_origins,
+    trace_stop_resumed_or_from_start,
+};
 use crate::rule_violation::header_violation;
 use pd_lex::Place;
-use pd_reparse::{ParsedEvent, Reading, law_readings, read};
+use pd_reparse::{ParsedEvent, Reading, law_readings_are_scripts, read};
 use pd_run::{Verdict, law_verdicts_have_reasons};
 use pd_script::{Header, HeaderItem, HeaderKind};
 use pd_settings::Settings;
@@ -40,7 +43,7 @@ pub struct Explanation {
 ///
 /// # Errors
 /// `AllocError` where a growth is refused.
-pub fn explain(
+pub fn explain_by_rerun_unless_pass(
     alloc: Global,
     lines: &Lines,
     settings: &Settings,
@@ -67,7 +70,10 @@ pub fn explain(
 ///
 /// # Errors
 /// `AllocError` where a growth is refused.
-pub fn explain_job(alloc: Global, done: &Done) -> Result<Option<Explanation>, AllocError>
+pub fn explain_job_unless_pass(
+    alloc: Global,
+    done: &Done,
+) -> Result<Option<Explanation>, AllocError>
     ensures reported { IfOk result (λ reported. option_map (λ e. e.verdict) reported ≡ option_map (λ _. verdict_of done.now.text done.now.settings) (line_unless_pass (verdict_of done.now.text done.now.settings))) }
     ensures at { IfOk result (λ reported. option_map (λ e. e.line) reported ≡ line_unless_pass (verdict_of done.now.text done.now.settings)) }
     ensures cause { IfOk result (λ reported. IfSome reported (λ e. IsCause done.now.text done.now.settings (verdict_of done.now.text done.now.settings) e.cause)) }
@@ -108,7 +114,9 @@ fn cause_of_verdict(
     ensures { IfOk result (IsCause lines.now settings.now verdict) }
 {
     match verdict {
-        Verdict::Syntax(_) => Ok(Cause::Syntax(find_refusal(alloc, lines, line)?)),
+        Verdict::Syntax(_) => Ok(Cause::Syntax(find_refused_token_and_expected(
+            alloc, lines, line,
+        )?)),
         _ => {
             let reading = read(alloc, lines)?;
             cause_in_header_or_run(alloc, lines, settings, verdict, line, &reading, None, None)
@@ -129,11 +137,13 @@ fn cause_of_job(
 {
     let lines = done.text().lines();
     match verdict {
-        Verdict::Syntax(_) => Ok(Cause::Syntax(find_refusal(alloc, lines, line)?)),
+        Verdict::Syntax(_) => Ok(Cause::Syntax(find_refused_token_and_expected(
+            alloc, lines, line,
+        )?)),
         _ => {
             let track = done.track();
-            let resumed = resume_for_origins(track, line)?;
-            let resumed_early = resume_for_dropped(track, verdict, line)?;
+            let resumed = find_resume_point_for_origins(track, line)?;
+            let resumed_early = find_resume_point_for_dropped(track, verdict, line)?;
             cause_in_header_or_run(
                 alloc,
                 lines,
@@ -168,8 +178,8 @@ fn cause_in_header_or_run(
     ensures { IfOk result (IsCauseIn lines.now line settings.now (script_of lines.now) verdict) }
 {
     // The laws do no work here and below: that a stop is found rests on them.
-    law_readings();
-    match first_unsupported_item(reading.header()) {
+    law_readings_are_scripts();
+    match first_unsupported_header_item(reading.header()) {
         Some(item) => cause_of_header_item(alloc, lines, &item),
         None => cause_of_run_stop(
             alloc,
@@ -209,14 +219,14 @@ fn cause_of_run_stop(
     requires verdict { verdict ≡ verdict_of lines.now settings.now }
     requires line { line_of verdict ≡ Some line }
     requires reading { reading.now ≡ reading_of lines.now }
-    requires header { first_unsupported_item (script_part reading.now).header.items ≡ None }
+    requires header { first_unsupported_header_item (script_part reading.now).header.items ≡ None }
     requires resumed { IfSome resumed (λ t. IsResumed settings.now (script_of lines.now) t.passed t.run) }
     requires resumed_early { IfSome resumed_early (λ t. IsResumed settings.now (script_of lines.now) t.passed t.run) }
     ensures { IfOk result (IsCauseIn lines.now line settings.now (script_of lines.now) verdict) }
 {
     law_verdicts_have_reasons();
-    law_readings();
-    match trace_stop(alloc, reading, settings, resumed, line)? {
+    law_readings_are_scripts();
+    match trace_stop_resumed_or_from_start(alloc, reading, settings, resumed, line)? {
         Some(traced) => cause_of_traced_stop(
             alloc,
             lines,
@@ -245,7 +255,7 @@ fn cause_of_traced_stop(
     requires verdict { _verdict ≡ verdict_of lines.now settings.now }
     requires line { line_of _verdict ≡ Some _line }
     requires reading { reading.now ≡ reading_of lines.now }
-    requires header { first_unsupported_item (script_part reading.now).header.items ≡ None }
+    requires header { first_unsupported_header_item (script_part reading.now).header.items ≡ None }
     requires resumed_early { IfSome resumed_early (λ t. IsResumed settings.now (script_of lines.now) t.passed t.run) }
     requires stop { stop_in _line settings.now (script_part reading.now) ≡ Some traced.now.stop }
     requires traced { IsTraced settings.now (script_part reading.now) traced.now.stop traced.now.triggers.items }
@@ -253,10 +263,16 @@ fn cause_of_traced_stop(
     ensures { IfOk result (IsCauseIn lines.now _line settings.now (script_of lines.now) _verdict) }
 {
     law_verdicts_have_reasons();
-    law_readings();
-    let place = event_place(reading, traced.stop.passed);
+    law_readings_are_scripts();
+    let place = place_of_event_after_passed(reading, traced.stop.passed);
     let parsed_event = reading.events().at(traced.stop.passed);
-    let dropped = dropped_before_stop(alloc, reading, settings, resumed_early, &traced.stop)?;
+    let dropped = last_dropped_segments_if_packet_stop(
+        alloc,
+        reading,
+        settings,
+        resumed_early,
+        &traced.stop,
+    )?;
     cause_with_origins_and_dropped(
         alloc,
         lines,
@@ -283,7 +299,7 @@ fn cause_with_origins_and_dropped(
 ) -> Result<Cause, AllocError>
     requires traced { IsTraced _settings.now (script_part _reading.now) traced.now.stop traced.now.triggers.items }
     requires whole { knows_all_origins traced.now.stop traced.now.triggers.items ≡ true }
-    requires dropped { dropped.items ≡ dropped_before_stop _settings.now (script_part _reading.now) traced.now.stop }
+    requires dropped { dropped.items ≡ last_dropped_segments_if_packet_stop _settings.now (script_part _reading.now) traced.now.stop }
     ensures { IfOk result (λ cause. IsCauseOf lines.now place parsed_event.now.event traced.now.stop cause × HasHistory _settings.now (script_part _reading.now) traced.now.stop cause) }
 {
     let cause = cause_of_event_stop(alloc, lines, place, parsed_event, &traced.stop)?;
@@ -292,8 +308,8 @@ fn cause_with_origins_and_dropped(
 }
 
 /// The first header item that isn't run.
-fn first_unsupported_item(header: &Header) -> Option<HeaderItem>
-    ensures { result ≡ first_unsupported_item header.now.items }
+fn first_unsupported_header_item(header: &Header) -> Option<HeaderItem>
+    ensures { result ≡ first_unsupported_header_item header.now.items }
 {
     header
         .as_slice()

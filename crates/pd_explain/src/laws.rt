@@ -7,36 +7,39 @@ ghost use Rattle.pd_explain.specs.Escape.{EscapedIsPrintable};
 ghost use Rattle.pd_explain.specs.Leftovers.{PassesHaveEnds};
 ghost use Rattle.pd_explain.specs.Inner.{PacketsAppend};
 
-use pd_host::{law_advances, law_arrivals, law_calls};
-use pd_match::law_comparisons;
-use pd_print::law_sent_packets_agree;
-use pd_run::{law_steps, law_verdicts_have_reasons};
+use pd_host::{
+    law_calls_append_and_depend_on_consulted, law_expiries_append_in_order_without_settings,
+    law_outside_arrivals_harmless_exact_rst_resets,
+};
+use pd_match::law_first_mismatch_of_packets_and_calls;
+use pd_print::law_printed_packet_agrees_with_segment;
+use pd_run::{law_passed_events_match_expectations, law_verdicts_have_reasons};
 
 /// One event's input alone, or the timer in the step of one event alone, lets a packet go.
-pub fn law_origins_are_unique()
+pub fn law_packet_has_at_most_one_origin()
     ensures { OriginsAreUnique }
 {
-    law_packets_append();
+    law_outbox_is_first_in_first_out();
 }
 
 /// With the packet that was sent in the place of the expected one, a run goes on past the event where that one differed.
-pub fn law_actual_packets_pass()
+pub fn law_run_passes_with_actual_packet()
     ensures { ActualPacketsPass }
 {
     law_verdicts_have_reasons();
-    law_comparisons();
-    law_sent_packets_agree();
+    law_first_mismatch_of_packets_and_calls();
+    law_printed_packet_agrees_with_segment();
 }
 
 /// Where the reason that no packet was sent names a window, the octets that it is about lie beyond that window, and within
 /// those that the reasons before it name.
-pub fn law_named_windows_hold()
+pub fn law_unsent_octets_lie_beyond_window()
     ensures { NamedWindowsHold }
 {}
 
 /// A number is named exactly where some number of an event is over its limit, and a shape exactly where its shape isn't run.
 /// Of a segment that the sender doesn't run, the rule that is named holds.
-pub fn law_rules()
+pub fn law_rules_are_named_iff_broken()
     ensures limits { LimitsHaveNumbers }
     ensures shapes { ShapesHaveRules }
     ensures openings { OpeningsHaveRules }
@@ -49,18 +52,18 @@ pub fn law_escaped_is_printable()
 {}
 
 /// A law: a script passes exactly where its run comes to its end.
-pub fn law_passes_have_ends()
+pub fn law_passes_iff_run_reaches_end()
     ensures { PassesHaveEnds }
 {
     law_verdicts_have_reasons();
 }
 
 /// Notes of triggers rest on this law: no event takes a packet out of the midst of others, or puts one there.
-pub fn law_packets_append()
+pub fn law_outbox_is_first_in_first_out()
     ensures { PacketsAppend }
 {
-    law_steps();
-    law_arrivals();
-    law_calls();
-    law_advances();
+    law_passed_events_match_expectations();
+    law_outside_arrivals_harmless_exact_rst_resets();
+    law_calls_append_and_depend_on_consulted();
+    law_expiries_append_in_order_without_settings();
 }

@@ -6,10 +6,14 @@ ghost use Rattle.pd_explain.specs.Leftovers.{awaits_any_packet, end_from, end_in
 ghost use Rattle.pd_explain.specs.Inner.{AreOriginsOf, HasTriggersToEnd};
 ghost use Rattle.pd_explain.specs.Origins.{AreOrigins};
 
-use crate::causes::{SenderSnapshot, Unmatched, list_unmatched, sender_snapshot_of};
-use crate::laws::law_packets_append;
-use crate::origins::{Origin, Trigger, awaits_packet, origins_of, step_with_triggers};
-use pd_run::{Plain, RunState, StepEnd, law_runs_are_bounded};
+use crate::causes::{
+    SenderSnapshot, Unmatched, list_first_unmatched_after_skipped, sender_snapshot_of,
+};
+use crate::laws::law_outbox_is_first_in_first_out;
+use crate::origins::{
+    Origin, Trigger, awaits_packet, origins_of_oldest_unmatched, step_and_note_packet_triggers,
+};
+use pd_run::{Plain, RunState, StepEnd, law_runs_stay_in_step_bounds};
 use pd_script::{Event, Parsed, parse};
 use pd_settings::Settings;
 use pd_text::Lines;
@@ -35,7 +39,7 @@ pub struct Leftovers {
 ///
 /// # Errors
 /// `AllocError` where a growth is refused.
-pub fn find_leftovers(
+pub fn find_leftovers_if_passes(
     alloc: Global,
     lines: &Lines,
     settings: &Settings,
@@ -43,8 +47,8 @@ pub fn find_leftovers(
     ensures { IfOk result (IsLeftovers lines.now settings.now) }
 {
     let parsed = parse(alloc, lines)?;
-    match run_to_end(alloc, &parsed, settings)? {
-        Some(end) => leftovers_of(alloc, &parsed, settings, &end),
+    match run_to_end_if_it_passes(alloc, &parsed, settings)? {
+        Some(end) => leftovers_unless_awaiting_and_none_left(alloc, &parsed, settings, &end),
         None => Ok(None),
     }
 }
@@ -64,12 +68,12 @@ impl PassedRun {
         requires { length (unmatched self.now.run) ≤ length self.now.triggers.items }
         ensures { IfOk result (λ origins. AreOriginsOf (unmatched self.now.run) self.now.triggers.items origins.items) }
     {
-        origins_of(alloc, self.run.host().outbox(), self.triggers.as_slice())
+        origins_of_oldest_unmatched(alloc, self.run.host().outbox(), self.triggers.as_slice())
     }
 }
 
 /// The run at the end of a script that was read; nothing where it stops before.
-fn run_to_end(
+fn run_to_end_if_it_passes(
     alloc: Global,
     parsed: &Parsed,
     settings: &Settings,
@@ -78,18 +82,18 @@ fn run_to_end(
     ensures run { IfOk result (λ end. option_map (λ e. e.run) end ≡ end_in settings.now parsed.now) }
     ensures triggers { IfOk result (λ end. IfSome end (λ e. HasTriggersToEnd settings.now parsed.now e.run e.triggers.items)) }
 {
-    law_runs_are_bounded();
+    law_runs_stay_in_step_bounds();
     if parsed.fault.is_some() {
         return Ok(None);
     }
     match RunState::new(alloc, &parsed.header, settings) {
-        Ok(start) => run_all_events(alloc, parsed, settings, start),
+        Ok(start) => run_events_with_triggers_if_all_pass(alloc, parsed, settings, start),
         Err(_) => Ok(None),
     }
 }
 
 /// The run after the last event, and who let its packets go.
-fn run_all_events(
+fn run_events_with_triggers_if_all_pass(
     alloc: Global,
     parsed: &Parsed,
     settings: &Settings,
@@ -100,13 +104,19 @@ fn run_all_events(
     ensures run { IfOk result (λ end. option_map (λ e. e.run) end ≡ end_from parsed.now.events start) }
     ensures triggers { IfOk result (λ end. IfSome end (λ e. HasTriggersToEnd settings.now parsed.now e.run e.triggers.items)) }
 {
-    law_runs_are_bounded();
-    law_packets_append();
+    law_runs_stay_in_step_bounds();
+    law_outbox_is_first_in_first_out();
     let mut stepper = Plain::new();
     let mut triggers = Vec::new(alloc);
     let mut run = start;
     for event in parsed.events.as_slice() {
-        match step_with_triggers(&mut stepper, &mut run, event, settings, &mut triggers)? {
+        match step_and_note_packet_triggers(
+            &mut stepper,
+            &mut run,
+            event,
+            settings,
+            &mut triggers,
+        )? {
             StepEnd::Go => {}
             StepEnd::Stop(_) => return Ok(None),
         }
@@ -115,7 +125,7 @@ fn run_all_events(
 }
 
 /// The leftovers of a run after the last of its events.
-fn leftovers_of(
+fn leftovers_unless_awaiting_and_none_left(
     alloc: Global,
     parsed: &Parsed,
     settings: &Settings,
@@ -132,14 +142,14 @@ fn leftovers_of(
     Ok(Some(Leftovers {
         line: last_event_line(events),
         awaits,
-        unmatched: list_unmatched(alloc, &end.run, 0)?,
-        origins: origins_at_end(alloc, parsed, settings, end)?,
+        unmatched: list_first_unmatched_after_skipped(alloc, &end.run, 0)?,
+        origins: origins_of_unmatched_at_end(alloc, parsed, settings, end)?,
         sender: sender_snapshot_of(&end.run),
     }))
 }
 
 /// The origins of the oldest unmatched packets at the end.
-fn origins_at_end(
+fn origins_of_unmatched_at_end(
     alloc: Global,
     _parsed: &Parsed,
     _settings: &Settings,

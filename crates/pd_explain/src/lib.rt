@@ -1,11 +1,12 @@
 //! Why a script's row isn't `pass`, in words.
 //!
-//! `explain` looks into the run where it stopped, or into the text where the grammar refuses it.
+//! `explain_by_rerun_unless_pass` looks into the run where it stopped, or into the text where the
+//! grammar refuses it.
 //! `causes`, `refusals` and `rules` find the reason; `render` writes it as lines and as a JSON
 //! object. An `Explanation` has the verdict, its line and a `Cause`: a `Refusal` of the grammar,
 //! the `RuleViolation` of a rule by which the script isn't run, or the `Failure` of an event.
-//! `explain_job` explains a job that was run. `find_leftovers` gives the packets that a script that
-//! passes leaves (`Leftovers`).
+//! `explain_job_unless_pass` explains a job that was run. `find_leftovers_if_passes` gives the
+//! packets that a script that passes leaves (`Leftovers`).
 //!
 //! ```text
 //!     a verdict
@@ -19,7 +20,7 @@
 //!
 //! The cause is that of the event, or of the text, that the verdict names: `IsCause`
 //! (specs/Explained.antt). The origin of a packet is the input or the timer in whose step it was
-//! put out, and nothing else: the law `law_origins_are_unique`.
+//! put out, and nothing else: the law `law_packet_has_at_most_one_origin`.
 //!
 //! Why it is so:
 //! - A run notes nothing for its explanation. It is run again when somebody asks for a reason, and
@@ -49,14 +50,15 @@ mod rule_violation;
 mod rules;
 
 pub use causes::{Cause, Failed, SenderSnapshot, cause_of_event_stop};
-pub use explain_verdict::{explain, explain_job};
+pub use explain_verdict::{explain_by_rerun_unless_pass, explain_job_unless_pass};
 pub use laws::{
-    law_actual_packets_pass, law_escaped_is_printable, law_named_windows_hold,
-    law_origins_are_unique, law_passes_have_ends, law_rules,
+    law_escaped_is_printable, law_packet_has_at_most_one_origin, law_passes_iff_run_reaches_end,
+    law_rules_are_named_iff_broken, law_run_passes_with_actual_packet,
+    law_unsent_octets_lie_beyond_window,
 };
-pub use leftovers::{Leftovers, find_leftovers};
-pub use parts::event_place;
+pub use leftovers::{Leftovers, find_leftovers_if_passes};
+pub use parts::place_of_event_after_passed;
 pub use render::{
     cause_text, explanation_json, explanation_text, leftovers_json, leftovers_text, write_sender,
 };
-pub use rules::event_rule;
+pub use rules::rule_that_stopped_run_at_event;

@@ -6,14 +6,17 @@ ghost use Rattle.pd_host.specs.Host.{IsShort};
 ghost use Rattle.pd_run.specs.Prechecks.{failed_precheck};
 ghost use Rattle.pd_run.specs.Laws.{unmatched};
 ghost use Rattle.pd_run.specs.Limits.{is_long, written_times};
-ghost use Rattle.pd_run.specs.Step.{action_time, step, IsStepEnd, stop_reason};
+ghost use Rattle.pd_run.specs.Step.{action_time_not_before_clock, step, IsStepEnd, stop_reason};
 ghost use Rattle.pd_run.specs.declared.stepper.StepEnd.TheVariants.{Go};
-ghost use Rattle.pd_explain.specs.Origins.{awaits_packet, packets_matched_by, packets_in, after_timer, after_input};
+ghost use Rattle.pd_explain.specs.Origins.{awaits_packet, count_packets_matched_by, packets_in, after_timer, after_input};
 ghost use Rattle.pd_explain.specs.Inner.{AreOriginsOf, origin_by, triggers_at, triggers_by, triggers_of};
 
-use crate::laws::law_packets_append;
+use crate::laws::law_outbox_is_first_in_first_out;
 use pd_host::{Host, HostEnd, Outbox};
-use pd_run::{Plain, RunState, StepEnd, Stepper, StopPoint, StopReason, failed_precheck, time_of};
+use pd_run::{
+    Plain, RunState, StepEnd, Stepper, StopPoint, StopReason, failed_precheck,
+    single_moment_or_base,
+};
 use pd_script::{Action, Event};
 use pd_seg::Sent;
 use pd_settings::Settings;
@@ -44,7 +47,7 @@ pub enum Trigger {
 ///
 /// # Errors
 /// `AllocError` where a growth is refused.
-pub fn step_with_triggers(
+pub fn step_and_note_packet_triggers(
     stepper: &mut Plain,
     run: &mut RunState,
     event: &Event,
@@ -60,13 +63,13 @@ pub fn step_with_triggers(
     ensures one_more { OnOk result (stepper.new ≡ stepper.old + 1) }
     ensures noted { IfOk result (λ end. end ≡ Go → triggers.new.items ≡ triggers.old.items ++ triggers_at run.old event.now) }
 {
-    law_packets_append();
+    law_outbox_is_first_in_first_out();
     let before = count_unmatched(run);
     let expired = count_unmatched_after_expiries(run, event)?;
     let end = stepper.step(run, event, settings)?;
     if let StepEnd::Go = end {
-        let after = count_unmatched_and_matched(run, event)?;
-        put_event_triggers(triggers, event, before, expired, after)?;
+        let after = count_unmatched_and_matched_by_event(run, event)?;
+        put_triggers_by_outbox_counts(triggers, event, before, expired, after)?;
     }
     Ok(end)
 }
@@ -75,7 +78,7 @@ pub fn step_with_triggers(
 ///
 /// # Errors
 /// `AllocError` where a growth is refused.
-pub fn note_stop_triggers(
+pub fn note_triggers_if_stop_compared(
     triggers: &mut Vec<Trigger>,
     event: &Event,
     stop: &StopPoint,
@@ -86,21 +89,26 @@ pub fn note_stop_triggers(
     requires stops { stop_reason stop.now.before event.now ≡ Some stop.now.stop_reason }
     ensures { OnOk result (triggers.new.items ≡ triggers.old.items ++ triggers_by stop.now.before event.now stop.now.stop_reason) }
 {
-    law_packets_append();
+    law_outbox_is_first_in_first_out();
     match &stop.stop_reason {
-        StopReason::Differs(_, _, run) => note_compared_triggers(
+        StopReason::Differs(_, _, run) => note_triggers_between_runs(
             triggers,
             event,
             &stop.before,
             run,
         ),
-        StopReason::Answered(_, run) => note_compared_triggers(triggers, event, &stop.before, run),
+        StopReason::Answered(_, run) => note_triggers_between_runs(
+            triggers,
+            event,
+            &stop.before,
+            run,
+        ),
         StopReason::FailedPrecheck(_) | StopReason::Halted(_) | StopReason::Missing => Ok(()),
     }
 }
 
 /// The same where a packet or an answer was compared in a run.
-fn note_compared_triggers(
+fn note_triggers_between_runs(
     triggers: &mut Vec<Trigger>,
     event: &Event,
     before: &RunState,
@@ -111,15 +119,15 @@ fn note_compared_triggers(
     requires base { before.now.base < 2 ^ 61 }
     ensures { failed_precheck before.now.base event.now ≡ None → length (unmatched run.now) ≡ length (after_input before.now event.now) → OnOk result (triggers.new.items ≡ triggers.old.items ++ triggers_at before.now event.now) }
 {
-    law_packets_append();
+    law_outbox_is_first_in_first_out();
     let stood = count_unmatched(before);
     let expired = count_unmatched_after_expiries(before, event)?;
     let after = count_unmatched(run);
-    put_event_triggers(triggers, event, stood, expired, after)
+    put_triggers_by_outbox_counts(triggers, event, stood, expired, after)
 }
 
 /// Adds who let the packets go that an event put out, by how many stood before, after its expiries and after it.
-fn put_event_triggers(
+fn put_triggers_by_outbox_counts(
     triggers: &mut Vec<Trigger>,
     event: &Event,
     before: usize,
@@ -176,10 +184,10 @@ fn count_unmatched(run: &RunState) -> usize
 }
 
 /// The same with the one that an event took.
-fn count_unmatched_and_matched(run: &RunState, event: &Event) -> Result<usize, AllocError>
-    ensures { IfOk result (λ count. count ≡ length (unmatched run.now) + packets_matched_by event.now) }
+fn count_unmatched_and_matched_by_event(run: &RunState, event: &Event) -> Result<usize, AllocError>
+    ensures { IfOk result (λ count. count ≡ length (unmatched run.now) + count_packets_matched_by event.now) }
 {
-    match count_unmatched(run).checked_add(packets_matched_by(event)) {
+    match count_unmatched(run).checked_add(count_packets_matched_by(event)) {
         Some(count) => Ok(count),
         None => Err(AllocError),
     }
@@ -196,7 +204,7 @@ fn count_unmatched_after_expiries(run: &RunState, event: &Event) -> Result<usize
     if awaits_packet(&event.action) || failed_precheck(run.base(), event).is_some() {
         return Ok(before);
     }
-    let moment = action_time(run, event);
+    let moment = action_time_not_before_clock(run, event);
     if has_expiry_by(run, moment) {
         return count_unmatched_after_advance(run.host(), moment);
     }
@@ -204,14 +212,14 @@ fn count_unmatched_after_expiries(run: &RunState, event: &Event) -> Result<usize
 }
 
 /// The moment at which an event acts.
-pub fn action_time(run: &RunState, event: &Event) -> u64
+pub fn action_time_not_before_clock(run: &RunState, event: &Event) -> u64
     requires clock { run.now.clock < 2 ^ 61 }
     requires base { run.now.base < 2 ^ 61 }
     requires short { list_any is_long (written_times event.now.time) ≡ false }
-    ensures acts { result ≡ action_time run.now event.now }
+    ensures acts { result ≡ action_time_not_before_clock run.now event.now }
     ensures early { result < 2 ^ 62 }
 {
-    time_of(run.base(), event.time).max(run.clock())
+    single_moment_or_base(run.base(), event.time).max(run.clock())
 }
 
 /// Whether an expiry lies at or before a moment.
@@ -240,8 +248,8 @@ fn count_unmatched_after_advance(host: &Host, until: u64) -> Result<usize, Alloc
 }
 
 /// How many packets an event takes that passes.
-pub fn packets_matched_by(event: &Event) -> usize
-    ensures { result ≡ packets_matched_by event.now }
+pub fn count_packets_matched_by(event: &Event) -> usize
+    ensures { result ≡ count_packets_matched_by event.now }
 {
     if awaits_packet(&event.action) { 1 } else { 0 }
 }
@@ -263,7 +271,7 @@ pub fn awaits_packet(action: &Action) -> bool
 ///
 /// # Errors
 /// `AllocError` where a growth is refused.
-pub fn origins_of(
+pub fn origins_of_oldest_unmatched(
     alloc: Global,
     outbox: &Outbox,
     triggers: &[Trigger],
@@ -275,14 +283,14 @@ pub fn origins_of(
     let mut origins = Vec::new(alloc);
     for place in 0..outbox.len().min(MAX_REPORTED) {
         match outbox.get(place) {
-            Some(sent) => origins.push(origin_of(sent, triggers[skipped + place]))?,
+            Some(sent) => origins.push(origin_from_trigger(sent, triggers[skipped + place]))?,
             None => unreachable!(),
         }
     }
     Ok(origins)
 }
 
-fn origin_of(sent: &Sent, trigger: Trigger) -> Origin
+fn origin_from_trigger(sent: &Sent, trigger: Trigger) -> Origin
     ensures { result ≡ origin_by trigger sent.now.at }
 {
     match trigger {

@@ -5,9 +5,9 @@ mod part_of_rule;
 mod rule_part;
 mod token_roles;
 
-pub use self::locate::event_place;
-pub(crate) use self::locate::{ShownPart, place_of_part, rest_of_line_at, shown_line_at};
+pub use self::locate::place_of_event_after_passed;
+pub(crate) use self::locate::{ShownPart, place_of_part_or_from, rest_of_line_at, shown_line_at};
 pub(crate) use self::nesting::Nesting;
-pub(crate) use self::part_of_rule::{header_part, part_of};
+pub(crate) use self::part_of_rule::{rule_part_of_event, rule_part_of_header_item};
 pub(crate) use self::rule_part::RulePart;
 pub(crate) use self::token_roles::TokenRole;

@@ -5,7 +5,7 @@ mod foreign_syntax;
 mod last_event;
 mod probe;
 
-use self::candidates::list_expected;
+use self::candidates::list_candidates_that_can_follow;
 use self::foreign_syntax::ForeignSyntax;
 use self::last_event::LastEvent;
 use crate::parts::{rest_of_line_at, shown_line_at};
@@ -31,7 +31,7 @@ pub struct Refusal {
 
 impl Refusal {
     /// The foreign syntax that stands there, in words, where it has a name.
-    pub fn found_in_words(&self) -> Option<&'static str> {
+    pub fn foreign_syntax_in_words(&self) -> Option<&'static str> {
         match self.foreign_syntax {
             Some(foreign_syntax) => Some(foreign_syntax.words()),
             None => None,
@@ -43,7 +43,7 @@ impl Refusal {
 ///
 /// # Errors
 /// `AllocError` where a growth is refused.
-pub(crate) fn find_refusal(
+pub(crate) fn find_refused_token_and_expected(
     alloc: Global,
     lines: &Lines,
     line: usize,
@@ -53,9 +53,9 @@ pub(crate) fn find_refusal(
     let refused = last_event.place_of_refused(lines, line, accepted);
     let marked = last_event.place_to_mark(alloc, refused, accepted)?;
     let place_shown = shown_line_at(alloc, lines, marked.unwrap_or(Place::line_start(line)))?;
-    let expected = list_expected(
+    let expected = list_candidates_that_can_follow(
         alloc,
-        last_event.octets_of_first_tokens(accepted),
+        last_event.prior_events_and_first_tokens(accepted),
         last_event.expected_packet_length(accepted),
     )?;
     Ok(Refusal {

@@ -6,16 +6,17 @@ ghost use Rattle.pd_run.specs.StopPoints.{stop_in};
 ghost use Rattle.pd_script.specs.Script.{script_of};
 ghost use Rattle.pd_explain.specs.Inner.{AreOriginsOf, IsResumed, IsTraced, knows_all_origins, unmatched_at};
 
-use crate::causes::run_at_stop;
+use crate::causes::stored_run_of_stop;
 use crate::dropped::MAX_EVENTS_BACK;
-use crate::laws::law_packets_append;
+use crate::laws::law_outbox_is_first_in_first_out;
 use crate::origins::{
-    Origin, Trigger, note_stop_triggers, origins_of, packets_matched_by, step_with_triggers,
+    Origin, Trigger, count_packets_matched_by, note_triggers_if_stop_compared,
+    origins_of_oldest_unmatched, step_and_note_packet_triggers,
 };
 use pd_reparse::{ParsedEvent, Reading, SharedList};
 use pd_run::{
-    Kind, Plain, RunState, StepEnd, StopPoint, Verdict, law_runs_are_bounded,
-    law_verdicts_have_reasons, stop_reason_if_on_line,
+    Kind, Plain, RunState, StepEnd, StopPoint, Verdict, law_runs_stay_in_step_bounds,
+    law_verdicts_have_reasons, preview_stop_reason_if_on_line,
 };
 use pd_settings::Settings;
 use pd_track::Track;
@@ -44,7 +45,7 @@ impl TracedStop {
     fn knows_all_origins(&self) -> bool
         ensures { result ≡ knows_all_origins self.now.stop self.now.triggers.items }
     {
-        run_at_stop(&self.stop).host().outbox().len() <= self.triggers.len()
+        stored_run_of_stop(&self.stop).host().outbox().len() <= self.triggers.len()
     }
 
     /// The origins of the oldest unmatched packets at the stop.
@@ -55,8 +56,8 @@ impl TracedStop {
         requires { knows_all_origins self.now.stop self.now.triggers.items ≡ true }
         ensures { IfOk result (λ origins. AreOriginsOf (unmatched_at self.now.stop) self.now.triggers.items origins.items) }
     {
-        let run = run_at_stop(&self.stop);
-        origins_of(alloc, run.host().outbox(), self.triggers.as_slice())
+        let run = stored_run_of_stop(&self.stop);
+        origins_of_oldest_unmatched(alloc, run.host().outbox(), self.triggers.as_slice())
     }
 }
 
@@ -65,10 +66,13 @@ impl TracedStop {
 ///
 /// # Errors
 /// `AllocError` where a growth is refused.
-pub fn resume_for_origins(track: &Track, line: usize) -> Result<Option<ResumedRun>, AllocError>
+pub fn find_resume_point_for_origins(
+    track: &Track,
+    line: usize,
+) -> Result<Option<ResumedRun>, AllocError>
     ensures { IfOk result (λ resumed. IfSome resumed (λ t. IsResumed track.now.settings (script_of track.now.text) t.passed t.run)) }
 {
-    resume_at_checkpoint(track, last_checkpoint_for_origins(track, line))
+    find_resume_point_at_checkpoint(track, last_checkpoint_number_for_origins(track, line))
 }
 
 /// The last state that a track kept before those events ahead of a line that are looked at for segments that were dropped, where
@@ -76,7 +80,7 @@ pub fn resume_for_origins(track: &Track, line: usize) -> Result<Option<ResumedRu
 ///
 /// # Errors
 /// `AllocError` where a growth is refused.
-pub fn resume_for_dropped(
+pub fn find_resume_point_for_dropped(
     track: &Track,
     verdict: Verdict,
     line: usize,
@@ -85,7 +89,7 @@ pub fn resume_for_dropped(
 {
     match verdict {
         Verdict::Fail(_, kind) if is_packet_failure_kind(kind) => {
-            resume_at_checkpoint(track, last_checkpoint_for_dropped(track, line))
+            find_resume_point_at_checkpoint(track, last_checkpoint_number_for_dropped(track, line))
         }
         _ => Ok(None),
     }
@@ -97,7 +101,7 @@ fn is_packet_failure_kind(kind: Kind) -> bool {
 }
 
 /// After how many fourth events that state was kept; 0 where none was.
-fn last_checkpoint_for_dropped(track: &Track, line: usize) -> usize
+fn last_checkpoint_number_for_dropped(track: &Track, line: usize) -> usize
     ensures { result ≤ 1024 }
 {
     let earlier = count_events_before_line(track.reading().events(), line).min(4096);
@@ -111,11 +115,14 @@ fn last_checkpoint_for_dropped(track: &Track, line: usize) -> usize
 }
 
 /// The state that a track kept after so many fourth events, if it kept one.
-fn resume_at_checkpoint(track: &Track, checkpoints: usize) -> Result<Option<ResumedRun>, AllocError>
+fn find_resume_point_at_checkpoint(
+    track: &Track,
+    checkpoints: usize,
+) -> Result<Option<ResumedRun>, AllocError>
     requires { checkpoints ≤ 1024 }
     ensures { IfOk result (λ resumed. IfSome resumed (λ t. IsResumed track.now.settings (script_of track.now.text) t.passed t.run)) }
 {
-    law_runs_are_bounded();
+    law_runs_stay_in_step_bounds();
     law_verdicts_have_reasons();
     if checkpoints == 0 {
         return Ok(None);
@@ -133,7 +140,7 @@ fn resume_at_checkpoint(track: &Track, checkpoints: usize) -> Result<Option<Resu
 
 /// After how many fourth events the last state was kept where so many packets are unmatched, at most, as the events take that come
 /// after it and before a line; 0 where none was. So all that are unmatched on that line were put out after it.
-fn last_checkpoint_for_origins(track: &Track, line: usize) -> usize
+fn last_checkpoint_number_for_origins(track: &Track, line: usize) -> usize
     ensures { result ≤ 1024 }
 {
     let events = track.reading().events();
@@ -143,7 +150,11 @@ fn last_checkpoint_for_origins(track: &Track, line: usize) -> usize
     let mut matched = 0usize;
     for back in 0..last {
         let checkpoints = last - back;
-        matched = matched.saturating_add(count_matched(events, 4 * checkpoints, until));
+        matched = matched.saturating_add(count_packets_matched_by_events(
+            events,
+            4 * checkpoints,
+            until,
+        ));
         until = 4 * checkpoints;
         if let Some(checkpoint) = track.checkpoint(checkpoints - 1) {
             if checkpoint.state().host().outbox().len() <= matched {
@@ -155,11 +166,15 @@ fn last_checkpoint_for_origins(track: &Track, line: usize) -> usize
 }
 
 /// How many packets the events from one on, and before another, take.
-fn count_matched(events: &SharedList<ParsedEvent>, from: usize, until: usize) -> usize {
+fn count_packets_matched_by_events(
+    events: &SharedList<ParsedEvent>,
+    from: usize,
+    until: usize,
+) -> usize {
     let mut matched = 0usize;
     for place in from..until {
         if let Some(parsed_event) = events.get(place) {
-            matched = matched.saturating_add(packets_matched_by(&parsed_event.event));
+            matched = matched.saturating_add(count_packets_matched_by(&parsed_event.event));
         }
     }
     matched
@@ -189,7 +204,7 @@ fn count_before_line_among(events: &[ParsedEvent], line: usize) -> usize {
 ///
 /// # Errors
 /// `AllocError` where a growth is refused.
-pub fn trace_stop(
+pub fn trace_stop_resumed_or_from_start(
     alloc: Global,
     reading: &Reading,
     settings: &Settings,
@@ -222,7 +237,7 @@ fn trace_stop_from_start(
     ensures triggers { IfOk result (λ found. IfSome found (λ t. IsTraced settings.now (script_part reading.now) t.stop t.triggers.items)) }
     ensures whole { IfOk result (λ found. IfSome found (λ t. knows_all_origins t.stop t.triggers.items ≡ true)) }
 {
-    law_runs_are_bounded();
+    law_runs_stay_in_step_bounds();
     match RunState::new(alloc, reading.header(), settings) {
         Ok(run) => trace_stop_from_resumed(
             alloc,
@@ -248,25 +263,31 @@ fn trace_stop_from_resumed(
     ensures triggers { IfOk result (λ found. IfSome found (λ t. IsTraced settings.now (script_part reading.now) t.stop t.triggers.items)) }
     ensures whole { unmatched resumed.run ≡ [] → resumed.passed ≡ 0 → IfOk result (λ found. IfSome found (λ t. knows_all_origins t.stop t.triggers.items ≡ true)) }
 {
-    law_runs_are_bounded();
+    law_runs_stay_in_step_bounds();
     law_verdicts_have_reasons();
-    law_packets_append();
+    law_outbox_is_first_in_first_out();
     let events = reading.events();
     let mut stepper = Plain::new();
     let mut triggers = Vec::new(alloc);
     let mut run = resumed.run;
     for passed in resumed.passed..events.len() {
         let event = &events.at(passed).event;
-        if let Some(stop_reason) = stop_reason_if_on_line(&run, event, line)? {
+        if let Some(stop_reason) = preview_stop_reason_if_on_line(&run, event, line)? {
             let stop = StopPoint {
                 passed,
                 before: run,
                 stop_reason,
             };
-            note_stop_triggers(&mut triggers, event, &stop)?;
+            note_triggers_if_stop_compared(&mut triggers, event, &stop)?;
             return Ok(Some(TracedStop { stop, triggers }));
         }
-        match step_with_triggers(&mut stepper, &mut run, event, settings, &mut triggers)? {
+        match step_and_note_packet_triggers(
+            &mut stepper,
+            &mut run,
+            event,
+            settings,
+            &mut triggers,
+        )? {
             StepEnd::Go => {}
             StepEnd::Stop(_) => return Ok(None),
         }

@@ -1,13 +1,16 @@
 //! The rule that stops a script, with the part of its text that the rule is about.
 ghost use Rattle.std.specs.Prelude.{◌≡◌, IfOk};
 ghost use Rattle.pd_lex.specs.Places.{first_place};
-ghost use Rattle.pd_explain.specs.Parts.{part_of, header_part, place_of_part, IsShownAt};
-ghost use Rattle.pd_explain.specs.Rules.{header_rule};
+ghost use Rattle.pd_explain.specs.Parts.{part_of, rule_part_of_header_item, place_of_part_or_from, IsShownAt};
+ghost use Rattle.pd_explain.specs.Rules.{unsupported_header_item_rule};
 ghost use Rattle.pd_explain.specs.RuleViolations.{IsRuleViolation};
 
-use crate::alternatives::alternatives_of;
-use crate::parts::{RulePart, ShownPart, header_part, part_of, place_of_part, shown_line_at};
-use crate::rules::{Rule, header_rule};
+use crate::alternatives::supported_alternatives_of_rule_at_event;
+use crate::parts::{
+    RulePart, ShownPart, place_of_part_or_from, rule_part_of_event, rule_part_of_header_item,
+    shown_line_at,
+};
+use crate::rules::{Rule, unsupported_header_item_rule};
 use pd_lex::Place;
 use pd_script::{Event, HeaderItem};
 use pd_text::Lines;
@@ -37,8 +40,8 @@ pub fn violation_at_event(
 ) -> Result<RuleViolation, AllocError>
     ensures { IfOk result (IsRuleViolation lines.now place (part_of rule event.now) rule) }
 {
-    let part = shown_part(alloc, lines, place, part_of(rule, event))?;
-    let alternatives = alternatives_of(alloc, rule, event)?;
+    let part = shown_line_where_part_begins(alloc, lines, place, rule_part_of_event(rule, event))?;
+    let alternatives = supported_alternatives_of_rule_at_event(alloc, rule, event)?;
     Ok(RuleViolation {
         rule,
         part,
@@ -55,24 +58,29 @@ pub fn header_violation(
     lines: &Lines,
     item: &HeaderItem,
 ) -> Result<RuleViolation, AllocError>
-    ensures { IfOk result (IsRuleViolation lines.now first_place (header_part item.now.kind) (header_rule item.now.kind)) }
+    ensures { IfOk result (IsRuleViolation lines.now first_place (rule_part_of_header_item item.now.kind) (unsupported_header_item_rule item.now.kind)) }
 {
-    let part = shown_part(alloc, lines, Place::first(), header_part(item.kind))?;
+    let part = shown_line_where_part_begins(
+        alloc,
+        lines,
+        Place::first(),
+        rule_part_of_header_item(item.kind),
+    )?;
     Ok(RuleViolation {
-        rule: header_rule(item),
+        rule: unsupported_header_item_rule(item),
         part,
         alternatives: Vec::new(alloc),
     })
 }
 
 /// How a text is shown where such a part begins, the first from a place on.
-fn shown_part(
+fn shown_line_where_part_begins(
     alloc: Global,
     lines: &Lines,
     place: Place,
     part: RulePart,
 ) -> Result<ShownPart, AllocError>
-    ensures { IfOk result (IsShownAt lines.now (place_of_part part lines.now place)) }
+    ensures { IfOk result (IsShownAt lines.now (place_of_part_or_from part lines.now place)) }
 {
-    shown_line_at(alloc, lines, place_of_part(lines, place, part))
+    shown_line_at(alloc, lines, place_of_part_or_from(lines, place, part))
 }

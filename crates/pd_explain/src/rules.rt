@@ -1,6 +1,6 @@
 //! Which rule makes a header item or an event `unsupported` or `limit`: the first that applies.
 ghost use Rattle.std.specs.Prelude.{◌≡◌};
-ghost use Rattle.pd_explain.specs.Rules.{header_rule, event_rule};
+ghost use Rattle.pd_explain.specs.Rules.{unsupported_header_item_rule, rule_that_stopped_run_at_event};
 
 mod limited_numbers;
 mod unsupported_inputs;
@@ -9,9 +9,9 @@ mod unsupported_shapes;
 use self::limited_numbers::first_number_over_limit;
 pub(crate) use self::limited_numbers::{LimitedNumber, is_time_long};
 pub(crate) use self::unsupported_inputs::UnsupportedInput;
-use self::unsupported_inputs::input_rule;
+use self::unsupported_inputs::unsupported_input_of_halted_action;
 pub(crate) use self::unsupported_shapes::UnsupportedShape;
-use self::unsupported_shapes::shape_rule;
+use self::unsupported_shapes::find_unsupported_shape_of_event;
 use pd_host::Halt;
 use pd_run::{StopPoint, StopReason};
 use pd_script::{Event, HeaderItem, HeaderKind};
@@ -47,7 +47,7 @@ impl Rule {
     }
 
     /// How a script may be mended, in words, where no edit by hand is the way.
-    pub fn mend_in_words(self) -> Option<&'static str> {
+    pub fn import_advice_if_header_rule(self) -> Option<&'static str> {
         match self {
             Rule::NotRun(UnsupportedShape::HeaderCommand | UnsupportedShape::HeaderOption) => {
                 Some("`pdsuite import` takes a kernel's set-up over as settings")
@@ -57,7 +57,7 @@ impl Rule {
     }
 
     /// The meaning that others give to it, in words.
-    pub fn found_in_words(self) -> Option<&'static str> {
+    pub fn flag_meanings_text_if_flag_rule(self) -> Option<&'static str> {
         match self {
             Rule::NotRun(UnsupportedShape::Flag) => {
                 Some("E, W and C are flags of ECN (RFC 3168), and U is the urgent one")
@@ -76,8 +76,8 @@ impl Rule {
 }
 
 /// The rule by which a header item isn't run.
-pub(crate) fn header_rule(item: &HeaderItem) -> Rule
-    ensures { result ≡ header_rule item.now.kind }
+pub(crate) fn unsupported_header_item_rule(item: &HeaderItem) -> Rule
+    ensures { result ≡ unsupported_header_item_rule item.now.kind }
 {
     match item.kind {
         HeaderKind::Command => Rule::NotRun(UnsupportedShape::HeaderCommand),
@@ -89,18 +89,18 @@ pub(crate) fn header_rule(item: &HeaderItem) -> Rule
 
 /// The rule by which an event stops a run with `limit` or `unsupported`: the first that applies, in the order in which the
 /// step and the sender look.
-pub fn event_rule(event: &Event, stop: &StopPoint) -> Rule
-    ensures { result ≡ event_rule event.now stop.now }
+pub fn rule_that_stopped_run_at_event(event: &Event, stop: &StopPoint) -> Rule
+    ensures { result ≡ rule_that_stopped_run_at_event event.now stop.now }
 {
     if let Some(number) = first_number_over_limit(event) {
         return Rule::Over(number);
     }
-    if let Some(shape) = shape_rule(event) {
+    if let Some(shape) = find_unsupported_shape_of_event(event) {
         return Rule::NotRun(shape);
     }
     match (
         &stop.stop_reason,
-        input_rule(&event.action, stop.before.host()),
+        unsupported_input_of_halted_action(&event.action, stop.before.host()),
     ) {
         (StopReason::Halted(Halt::Unsupported), Some(input)) => Rule::NotTaken(input),
         _ => Rule::Over(LimitedNumber::Outbox),

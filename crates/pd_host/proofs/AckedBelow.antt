@@ -5,7 +5,7 @@ use Rattle.pd_recover.specs.declared.ack.Ack.{Ack}
 use Rattle.pd_recover.specs.declared.ack.SackNews.{SackNews}
 use Rattle.pd_recover.specs.declared.ack_action.AckAction.{AckAction}
 use Rattle.pd_recover.specs.declared.ack_action.AckAction.TheVariants.{StepC, NewSegment, Nothing}
-use Rattle.pd_recover.specs.Acks.{IsNamed, acked, renewed, acked_by, acked_with_sack, acked_without_sack, with_delivered, selective_duplicate, plain_duplicate, dup_ack_counted, grown_by, new_octets_acked, new_segment_within_rwnd, is_duplicate}
+use Rattle.pd_recover.specs.Acks.{IsNamed, acked, renewed, acked_by, acked_with_sack, acked_without_sack, with_delivered, selective_duplicate, plain_duplicate, dup_ack_counted, grown_by, new_octets_acked, new_segment_within_rwnd, is_rfc5681_duplicate}
 use Rattle.pd_recover.specs.Cong.{CongView}
 use Rattle.pd_recover.specs.Prr.{uses_prr}
 use Rattle.pd_recover.proofs.Cases.{selective_cases, plain_cases}
@@ -102,7 +102,7 @@ module _ (ack : Ack) (smss : 0 < ack.smss) (sent : ack.una ≤ ack.top) where
   number_leads : (w : CongView) → Below w → Then_leads (acked_without_sack ack w)
   number_leads w h =
       by_test Then_leads (nat_lt 0 ack.acked) _ _ (λ _. record { below = advanced_below w h; named = tt })
-      (λ _. by_test Then_leads (is_duplicate ack && nat_le w.recovery_point ack.una) _ _
+      (λ _. by_test Then_leads (is_rfc5681_duplicate ack && nat_le w.recovery_point ack.una) _ _
       (λ e. plain_leads (dup_ack_counted w) (kept ack.top w _ refl refl refl h)
       (lt _ _ (first_of_two _ _ (second_of_two _ _ (first_of_two _ _ e)))))
       (λ _. record { below = h; named = tt }))

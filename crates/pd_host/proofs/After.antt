@@ -5,7 +5,7 @@ use Rattle.pd_seg.specs.declared.segments.Sent.{Sent}
 use Rattle.pd_host.specs.Arrivals.{check_outcome, arrived_on, arrived, failed_check_of, reset_of, with_peer_fin}
 use Rattle.pd_host.specs.AckEffects.{taking, ack_taken}
 use Rattle.pd_host.specs.Connection.{ConnectionView}
-use Rattle.pd_host.specs.Handshake.{can_begin_connection, connection_begun, answered_syn, syn_settings, established_by, establishment_settings}
+use Rattle.pd_host.specs.Handshake.{is_supported_syn_for_listener, connection_begun, answered_syn, syn_settings, established_by, establishment_settings}
 use Rattle.pd_host.specs.InputLaws.{IsAfter, PutsOutAfter}
 use Rattle.pd_host.specs.Packets.{ack_of, refusal_of, syn_ack_of}
 use Rattle.pd_host.specs.Host.{beside, with_outbox}
@@ -70,7 +70,7 @@ opening now c s =
 
 on_connection : (o : Option ConnectionView) (segment : Segment) (now : ℕ) (s : SenderState) → Leaves (IsAfter now s) (arrived_on now segment s o)
 on_connection None segment now s =
-    either (IsAfter now s) (can_begin_connection s.endpoint.listener segment) (answered_syn now (connection_begun now s.settings segment) s) (Err Unsupported)
+    either (IsAfter now s) (is_supported_syn_for_listener s.endpoint.listener segment) (answered_syn now (connection_begun now s.settings segment) s) (Err Unsupported)
     (opening now (connection_begun now s.settings segment) s) tt
 on_connection (Some c) segment now s =
     passed_leaves (IsAfter now s) now segment c s (failed_check_of c segment) (λ u d e k. fin_after now s u d k)

@@ -8,10 +8,10 @@ use Rattle.pd_seg.specs.declared.segments.Sent.{Sent}
 use Rattle.pd_recover.specs.declared.ack_action.AckAction.{AckAction}
 use Rattle.pd_recover.specs.declared.ack_action.AckAction.TheVariants.{Ordinary, StepC, Entry, LimitedTransmit, NewSegment, FastRetransmit, Nothing}
 use Rattle.pd_recover.specs.declared.next_segment.NextSegment.{NextSegment}
-use Rattle.pd_host.specs.AckEffects.{OnTheWay, taking, ack_taken, next_fill, one_filled, filled, sender_of, pipe_of, put_out_data_segment, entered_on, entry, after_ack_action}
+use Rattle.pd_host.specs.AckEffects.{OnTheWay, taking, ack_taken, next_fill, one_filled, filled, sender_of, pipe_of, push_data_segment_to_outbox, entered_on, entry, after_ack_action}
 use Rattle.pd_host.specs.Arrivals.{failed_check_of, check_outcome, goes_on, with_connection, with_peer_fin, finished_on, finished_by, arrived_on, arrived}
 use Rattle.pd_host.specs.Connection.{ConnectionView}
-use Rattle.pd_host.specs.Handshake.{can_begin_connection, connection_begun, syn_settings}
+use Rattle.pd_host.specs.Handshake.{is_supported_syn_for_listener, connection_begun, syn_settings}
 use Rattle.pd_host.specs.Packets.{ack_of, refusal_of, syn_ack_of, data_of}
 use Rattle.pd_host.specs.OutboxLimit.{has_place}
 use Rattle.pd_host.specs.Host.{beside, with_outbox, put_out}
@@ -60,7 +60,7 @@ module _ (now : ℕ) (O : List Sent → Type 0) (C D : Settings → ConnectionVi
         (places_left s) (s, pipe_of s.endpoint.connection) h)
 
     put_holds : (segment : Span) (before after : ConnectionView) (s : SenderState) → Sends s → D s.settings after
-        → Comes Sends (put_out_data_segment now segment before after s)
+        → Comes Sends (push_data_segment_to_outbox now segment before after s)
     put_holds segment before after s h d =
         by_test (Comes Sends) (has_place s.endpoint.outbox) _ (Err Limit) (λ _. placed now O D more (data_of before segment) after s h d) (λ _. tt)
 
@@ -85,7 +85,7 @@ module _ (now : ℕ) (O : List Sent → Type 0) (C D : Settings → ConnectionVi
         put_holds new t (sent_on now new t) s h ((rules s.settings).acks.new_segment segment c new old passed e)
     led_holds segment c s (FastRetransmit first) h old d passed e =
         let t : ConnectionView = (taking now segment c c.established).0 in
-        comes_then Sends Sends (ordinary now) ordinary_after (put_out_data_segment now first t (timing_started now first t) s)
+        comes_then Sends Sends (ordinary now) ordinary_after (push_data_segment_to_outbox now first t (timing_started now first t) s)
         (put_holds first t (timing_started now first t) s h ((rules s.settings).acks.again segment c first old passed e))
     led_holds segment c s Nothing h old d passed e = h
 
@@ -157,7 +157,7 @@ module _ (now : ℕ) (O : List Sent → Type 0) (C D : Settings → ConnectionVi
     module _ (first : HoldsFirst now C) where
       opened_holds : (segment : Segment) (s : SenderState) → All s → Comes All (arrived_on now segment s None)
       opened_holds segment s h =
-          by_test (Comes All) (can_begin_connection s.endpoint.listener segment) _ (Err Unsupported)
+          by_test (Comes All) (is_supported_syn_for_listener s.endpoint.listener segment) _ (Err Unsupported)
           (λ e. answers_with (syn_ack_of (connection_begun now s.settings segment)) (record s { consulted_settings = syn_settings s.consulted_settings })
           (record s.endpoint { connection = Some (connection_begun now s.settings segment) }) h.packets
           (first s.settings s.endpoint.listener segment e))

@@ -7,7 +7,7 @@ use Rattle.pd_settings.specs.SettingSets.{Agree}
 use Rattle.pd_settings.specs.declared.settings.Settings.{Settings}
 use Rattle.pd_settings.specs.declared.keys.Key.TheVariants.{Sndbuf}
 use Rattle.pd_settings.specs.declared.setting_set.SettingSet.{SettingSet}
-use Rattle.pd_host.specs.Calls.{Descriptor, Listening, Connected, Reply, answered, with_listener, with_stored, with_answer, socket_reply, bind_reply, listen_reply, accept_reply, handed_out, no_delay_reply, free_of, with_queued, write_settings, queued, written_on, write_reply, closed_stream, closed_on, close_reply, operated, on_open, open_descriptor, reply_to, requested, has_unaccepted_connection, is_unaccepted, stream_of, with_stream}
+use Rattle.pd_host.specs.Calls.{Descriptor, Listening, Connected, Reply, answered, with_listener, with_stored, with_answer, socket_reply, bind_reply, listen_reply, accept_reply, handed_out, no_delay_reply, free_of, with_queued, write_settings, queued, written_on, write_reply, closed_stream, closed_on, close_reply, operated, on_open, open_descriptor, reply_to, requested, has_begun_unaccepted_connection, is_unaccepted, stream_of, with_stream}
 use Rattle.pd_host.specs.Syscalls.{syscall_of}
 use Rattle.pd_host.specs.Connection.{ConnectionView}
 use Rattle.pd_host.specs.InputLaws.{CallsOnlyUse, with_settings}
@@ -132,7 +132,7 @@ closed_again b now c s =
 
 close_again : (b : Settings) (now : ℕ) (s : SenderState) (d : Descriptor) → close_reply now (with_settings b s) d ≡ reply_again b (close_reply now s d)
 close_again b now s Listening =
-    either_mapped (rebound_with b) (has_unaccepted_connection s.endpoint.connection)
+    either_mapped (rebound_with b) (has_begun_unaccepted_connection s.endpoint.connection)
     (Err Unsupported) (answered (with_listener Closed s) (Number 0))
     (Err Unsupported) (answered (with_settings b (with_listener Closed s)) (Number 0)) refl refl
 close_again b now s (Connected c) = closed_again b now c s

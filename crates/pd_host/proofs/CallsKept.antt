@@ -6,7 +6,7 @@ use Rattle.pd_settings.specs.declared.settings.Settings.{Settings}
 use Rattle.pd_seg.specs.declared.call_results.Answer.{Answer}
 use Rattle.pd_seg.specs.declared.call_results.Answer.TheVariants.{Number}
 use Rattle.pd_seg.specs.declared.segments.Sent.{Sent}
-use Rattle.pd_host.specs.Calls.{Descriptor, Listening, Connected, Reply, with_answer, with_listener, with_stored, is_listener_open, is_unaccepted, is_open, open_stream, has_unaccepted_connection, stream_of, open_descriptor, socket_reply, bind_reply, listen_reply, handed_out, accept_reply, with_stream, with_nagle, no_delay_reply, free_of, with_queued, write_settings, queued, written_on, write_reply, closed_stream, closed_on, close_reply, operated, on_open, reply_to, requested, called}
+use Rattle.pd_host.specs.Calls.{Descriptor, Listening, Connected, Reply, with_answer, with_listener, with_stored, is_listener_open, is_unaccepted, is_open, open_stream, has_begun_unaccepted_connection, stream_of, open_descriptor, socket_reply, bind_reply, listen_reply, handed_out, accept_reply, with_stream, with_nagle, no_delay_reply, free_of, with_queued, write_settings, queued, written_on, write_reply, closed_stream, closed_on, close_reply, operated, on_open, reply_to, requested, called}
 use Rattle.pd_host.specs.Connection.{ConnectionView}
 use Rattle.pd_host.specs.Syscalls.{syscall_of}
 use Rattle.pd_host.specs.Sending.{is_recovering, ordinary, ordinary_outside_recovery}
@@ -157,7 +157,7 @@ module _ (now : ℕ) (O : List Sent → Type 0) (C D : Settings → ConnectionVi
 
   close_leaves : (s : SenderState) (d : Descriptor) → MayCall s → All s → IsOpenOn s d → Leaves All (close_reply now s d)
   close_leaves s Listening q h unclosed =
-      by_test (Leaves All) (has_unaccepted_connection s.endpoint.connection) (Err Unsupported) _ (λ _. tt) (λ _. listens Closed s h)
+      by_test (Leaves All) (has_begun_unaccepted_connection s.endpoint.connection) (Err Unsupported) _ (λ _. tt) (λ _. listens Closed s h)
   close_leaves s (Connected c) q h unclosed =
       closed_leaves c s (subst (λ o. IfSome o Q) unclosed.0 q) h (subst (λ o. IfSome o (C s.settings)) unclosed.0 h.connection) unclosed.1
 

@@ -2,12 +2,12 @@
 use Rattle.std.proofs.Common.{◌≡◌, ℕ, ◌+◌, ◌-◌, ◌<◌, ◌≤◌, ◌&&◌, min, nat_lt, nat_le, Bool, true, false, if◌then◌else◌, Option, None, Some, refl, sym, subst, arith}
 use Rattle.std.specs.Prelude.{unwrap_or, option_map}
 use Rattle.std.proofs.lemmas.Bool.Decides.{nat_tests}
-use Rattle.pd_board.specs.Retransmit.{run_at, most_from, next_lost, next_hole, rescue, segment_to}
+use Rattle.pd_board.specs.Retransmit.{run_at, most_from, next_lost, find_unsacked_octet_by_nextseg_rule_3, rescue, segment_to}
 use Rattle.pd_board.specs.Loss.{is_unsacked}
 use Rattle.pd_board.specs.Octets.{contains, least_where, greatest_where}
 use Rattle.pd_board.specs.Board.{BoardView, IsBoardView}
 use Rattle.pd_recover.specs.Acks.{new_segment_within_rwnd as new_octets}
-use Rattle.pd_recover.specs.NextSeg.{segment_of, has_room_for_segment, lost_run, new_segment_on_board, hole_run, rescue_run, next_send as next_seg, step_c_segment, limited_transmit_segment}
+use Rattle.pd_recover.specs.NextSeg.{segment_of, has_room_for_segment, lost_run, new_segment_on_board_within_rwnd, hole_run, rescue_run, next_send as next_seg, step_c_segment, limited_transmit_segment}
 use Rattle.pd_recover.specs.Cong.{CongView}
 use Rattle.pd_recover.specs.Laws.{IsSpared, SparesSacked}
 use Rattle.pd_recover.specs.declared.next_segment.NextSegment.{NextSegment}
@@ -17,7 +17,7 @@ use Rattle.pd_recover.proofs.Found.{least, greatest}
 use Rattle.pd_seg.specs.declared.sack_spans.Span.{Span}
 use Rattle.pd_host.specs.AckEffects.{next_by}
 use Rattle.pd_host.specs.Connection.{ConnectionView}
-use Rattle.pd_host.specs.Sending.{window_edge, usable_window, unsent_octets, sendable_octets, unsent_segment, can_new_segment_leave, next_new_segment, next_retransmit_segment, ordinary_segment}
+use Rattle.pd_host.specs.Sending.{una_plus_smaller_window, usable_window, unsent_octets, unsent_octets_in_usable_window, unsent_segment, may_leave_by_sws_and_nagle, next_new_segment, retransmit_segment_at_next_if_in_windows, ordinary_segment}
 use Rattle.pd_host.specs.SendingLaws.{IsInPeersWindow}
 use Rattle.pd_host.specs.declared.established.Established.{Established}
 use Rattle.pd_host.specs.declared.connection.ack_effects.WindowFill.{WindowFill}
@@ -73,54 +73,54 @@ sent_before s rwnd segment le new = absurd (omega (arith, le, new))
 new_end : (next left edge smss : ℕ) → 0 < min left (edge - next) → next + min (min left (edge - next)) smss ≤ edge
 new_end next left edge smss some = omega (arith, some)
 
-new_within : (c : ConnectionView) (e : Established) → AllOf (λ (segment : Span). (segment.start ≡ c.board.next) × (segment.end ≤ window_edge c e)) (next_new_segment c e)
+new_within : (c : ConnectionView) (e : Established) → AllOf (λ (segment : Span). (segment.start ≡ c.board.next) × (segment.end ≤ una_plus_smaller_window c e)) (next_new_segment c e)
 new_within c e =
-    let P : Span → Type 0 = λ segment. (segment.start ≡ c.board.next) × (segment.end ≤ window_edge c e) in
-    allowed_of P (nat_lt 0 (sendable_octets c e) && can_new_segment_leave c e) (Some (unsent_segment c e)) (λ t.
+    let P : Span → Type 0 = λ segment. (segment.start ≡ c.board.next) × (segment.end ≤ una_plus_smaller_window c e) in
+    allowed_of P (nat_lt 0 (unsent_octets_in_usable_window c e) && may_leave_by_sws_and_nagle c e) (Some (unsent_segment c e)) (λ t.
     one_of P (unsent_segment c e)
-    (refl, new_end c.board.next (unsent_octets c) (window_edge c e) c.board.smss (is_above 0 (sendable_octets c e) (first_of_two (nat_lt 0 (sendable_octets c e)) (can_new_segment_leave c e) t))))
+    (refl, new_end c.board.next (unsent_octets c) (una_plus_smaller_window c e) c.board.smss (is_above 0 (unsent_octets_in_usable_window c e) (first_of_two (nat_lt 0 (unsent_octets_in_usable_window c e)) (may_leave_by_sws_and_nagle c e) t))))
 
-again_within : (c : ConnectionView) (e : Established) → AllOf (λ (segment : Span). (segment ≡ run_at c.board.next c.board) × (segment.end ≤ window_edge c e)) (next_retransmit_segment c e)
+again_within : (c : ConnectionView) (e : Established) → AllOf (λ (segment : Span). (segment ≡ run_at c.board.next c.board) × (segment.end ≤ una_plus_smaller_window c e)) (retransmit_segment_at_next_if_in_windows c e)
 again_within c e =
-    let P : Span → Type 0 = λ segment. (segment ≡ run_at c.board.next c.board) × (segment.end ≤ window_edge c e) in
+    let P : Span → Type 0 = λ segment. (segment ≡ run_at c.board.next c.board) × (segment.end ≤ una_plus_smaller_window c e) in
     let segment : Span = run_at c.board.next c.board in
-    allowed_of P (nat_le segment.end (window_edge c e)) (Some segment) (λ t. one_of P segment (refl, is_within segment.end (window_edge c e) t))
+    allowed_of P (nat_le segment.end (una_plus_smaller_window c e)) (Some segment) (λ t. one_of P segment (refl, is_within segment.end (una_plus_smaller_window c e) t))
 
 -- nothing is chosen beyond the windows
-pub chosen_within : (c : ConnectionView) (e : Established) → AllOf (λ (segment : Span). segment.end ≤ window_edge c e) (ordinary_segment c e)
+pub chosen_within : (c : ConnectionView) (e : Established) → AllOf (λ (segment : Span). segment.end ≤ una_plus_smaller_window c e) (ordinary_segment c e)
 chosen_within c e =
-    branch_of (λ (segment : Span). segment.end ≤ window_edge c e) (nat_lt c.board.next c.board.top) (next_retransmit_segment c e) (next_new_segment c e)
+    branch_of (λ (segment : Span). segment.end ≤ una_plus_smaller_window c e) (nat_lt c.board.next c.board.top) (retransmit_segment_at_next_if_in_windows c e) (next_new_segment c e)
     (λ _ segment h. (again_within c e segment h).1) (λ _ segment h. (new_within c e segment h).1)
 
 edge_within : (una cwnd rwnd : ℕ) → (una + min cwnd rwnd ≤ una + cwnd) × (una + min cwnd rwnd ≤ una + rwnd)
 edge_within una cwnd rwnd = (omega arith, omega arith)
 
-within_rwnd : (c : ConnectionView) (e : Established) → window_edge c e ≤ c.board.una + e.rwnd
+within_rwnd : (c : ConnectionView) (e : Established) → una_plus_smaller_window c e ≤ c.board.una + e.rwnd
 within_rwnd c e = (edge_within c.board.una e.congestion.cwnd e.rwnd).1
 
 le_both : (a b d : ℕ) → a ≤ b → b ≤ d → a ≤ d
 le_both a b d h k = omega (arith, h, k)
 
-pub in_window : (c : ConnectionView) (e : Established) (segment : Span) → segment.end ≤ window_edge c e → segment.end ≤ c.board.una + e.congestion.cwnd
+pub in_window : (c : ConnectionView) (e : Established) (segment : Span) → segment.end ≤ una_plus_smaller_window c e → segment.end ≤ c.board.una + e.congestion.cwnd
 in_window c e segment h =
-    le_both segment.end (window_edge c e) (c.board.una + e.congestion.cwnd) h (edge_within c.board.una e.congestion.cwnd e.rwnd).0
+    le_both segment.end (una_plus_smaller_window c e) (c.board.una + e.congestion.cwnd) h (edge_within c.board.una e.congestion.cwnd e.rwnd).0
 
 pub ordinary_end : (c : ConnectionView) (e : Established) → AllOf (λ (segment : Span). segment.end ≤ c.board.una + e.rwnd) (ordinary_segment c e)
 ordinary_end c e segment h =
-    le_both segment.end (window_edge c e) (c.board.una + e.rwnd) (chosen_within c e segment h) (within_rwnd c e)
+    le_both segment.end (una_plus_smaller_window c e) (c.board.una + e.rwnd) (chosen_within c e segment h) (within_rwnd c e)
 
 same_place : (a next top : ℕ) → a ≡ next → next ≤ top → top ≤ next → a ≡ top
 same_place a next top e le ge = omega (arith, e, le, ge)
 
 pub ordinary_flow : (c : ConnectionView) (e : Established) → c.board.next ≤ c.board.top → AllOf (IsInPeersWindow c.board e.rwnd) (ordinary_segment c e)
 ordinary_flow c e order =
-    branch_of (IsInPeersWindow c.board e.rwnd) (nat_lt c.board.next c.board.top) (next_retransmit_segment c e) (next_new_segment c e)
+    branch_of (IsInPeersWindow c.board e.rwnd) (nat_lt c.board.next c.board.top) (retransmit_segment_at_next_if_in_windows c e) (next_new_segment c e)
     (λ _ segment h. sent_before c.board e.rwnd segment
     (subst (λ (x : Span). x.end ≤ c.board.top) (sym (again_within c e segment h).0) (run_end c.board c.board.next)))
     (λ t segment h _.
     let w = new_within c e segment h in (
       same_place segment.start c.board.next c.board.top w.0 order (at_most c.board.next c.board.top t),
-      le_both segment.end (window_edge c e) (c.board.una + e.rwnd) w.1 (within_rwnd c e),
+      le_both segment.end (una_plus_smaller_window c e) (c.board.una + e.rwnd) w.1 (within_rwnd c e),
     ))
 
 -- octets that weren't sent are queued
@@ -135,12 +135,12 @@ unsent_end next end usable_window smss some = omega (arith, some)
 
 pub ordinary_queued : (c : ConnectionView) (e : Established) → AllOf (IsQueuedIfNew c.board) (ordinary_segment c e)
 ordinary_queued c e =
-    branch_of (IsQueuedIfNew c.board) (nat_lt c.board.next c.board.top) (next_retransmit_segment c e) (next_new_segment c e)
+    branch_of (IsQueuedIfNew c.board) (nat_lt c.board.next c.board.top) (retransmit_segment_at_next_if_in_windows c e) (next_new_segment c e)
     (λ _ segment h above some.
     none_new segment.start segment.end c.board.top c.board.end
     (subst (λ (x : Span). x.end ≤ c.board.top) (sym (again_within c e segment h).0) (run_end c.board c.board.next)) above some)
     (λ _.
-    allowed_of (IsQueuedIfNew c.board) (nat_lt 0 (sendable_octets c e) && can_new_segment_leave c e) (Some (unsent_segment c e)) (λ _.
+    allowed_of (IsQueuedIfNew c.board) (nat_lt 0 (unsent_octets_in_usable_window c e) && may_leave_by_sws_and_nagle c e) (Some (unsent_segment c e)) (λ _.
     one_of (IsQueuedIfNew c.board) (unsent_segment c e) (λ _ some. unsent_end c.board.next c.board.end (usable_window c e) c.board.smss some)))
 
 -- Loss recovery
@@ -161,7 +161,7 @@ new_octets_flow smss una top end rwnd =
       queued_end top end smss (is_above top to (first_of_two (nat_lt top to) (nat_le to (una + rwnd)) t)),
     ))
 
-data_flow : (rwnd : ℕ) (s : BoardView) → AllOf (λ (segment : Span). (segment.start ≡ s.top) × (segment.end ≤ s.una + rwnd) × (segment.end ≤ s.end)) (new_segment_on_board rwnd s)
+data_flow : (rwnd : ℕ) (s : BoardView) → AllOf (λ (segment : Span). (segment.start ≡ s.top) × (segment.end ≤ s.una + rwnd) × (segment.end ≤ s.end)) (new_segment_on_board_within_rwnd rwnd s)
 data_flow rwnd s = new_octets_flow s.smss s.una s.top s.end rwnd
 
 -- where a segment stands that NextSeg gives: new octets at top, in the peer's window and queued, and others among those that
@@ -176,10 +176,10 @@ recovery_stands : (rwnd : ℕ) (s : BoardView) (w : CongView) → AllOf (Stands 
 recovery_stands rwnd s w =
     let P : NextSegment → Type 0 = Stands rwnd s in
     either_of P (lost_run s w) _ (map_of P (λ x. Lost (run_at x s)) (next_lost w.high_rxt s) (λ x e. run_end s x))
-    (either_of P (option_map (λ segment. New segment) (new_segment_on_board rwnd s)) _
-    (map_of P (λ segment. New segment) (new_segment_on_board rwnd s) (data_flow rwnd s))
+    (either_of P (option_map (λ segment. New segment) (new_segment_on_board_within_rwnd rwnd s)) _
+    (map_of P (λ segment. New segment) (new_segment_on_board_within_rwnd rwnd s) (data_flow rwnd s))
     (either_of P (hole_run s w) (rescue_run s w)
-    (map_of P (λ x. Hole (run_at x s)) (next_hole w.high_rxt s) (λ x e. run_end s x))
+    (map_of P (λ x. Hole (run_at x s)) (find_unsacked_octet_by_nextseg_rule_3 w.high_rxt s) (λ x e. run_end s x))
     (allowed_of P _ _ (λ _. map_of P (λ segment. Rescue segment) (rescue s) (rescue_end s)))))
 
 step_c_stands : (rwnd pipe : ℕ) (s : BoardView) (w : CongView) → AllOf (Stands rwnd s) (step_c_segment rwnd pipe s w)
@@ -193,7 +193,7 @@ stands_in_window rwnd s (Rescue segment) h = sent_before s rwnd segment h
 
 limited_stands : (rwnd pipe : ℕ) (s : BoardView) (w : CongView) → AllOf (λ segment. Stands rwnd s (New segment)) (limited_transmit_segment rwnd pipe s w)
 limited_stands rwnd pipe s w =
-    allowed_of (λ segment. Stands rwnd s (New segment)) (has_room_for_segment pipe s w) (new_segment_on_board rwnd s) (λ _. data_flow rwnd s)
+    allowed_of (λ segment. Stands rwnd s (New segment)) (has_room_for_segment pipe s w) (new_segment_on_board_within_rwnd rwnd s) (λ _. data_flow rwnd s)
 
 -- so stands what step C and limited transmit send
 pub filling_stands : (filling : WindowFill) (pipe : ℕ) (c : ConnectionView) (e : Established) → AllOf (Stands e.rwnd c.board) (next_by filling pipe c e)
@@ -213,7 +213,7 @@ filling_room NextSeg pipe c e =
     (λ t _ _. is_within c.board.smss (e.congestion.cwnd - pipe) t)
 filling_room NewData pipe c e =
     map_of (λ _. c.board.smss ≤ e.congestion.cwnd - pipe) (λ segment. New segment) (limited_transmit_segment e.rwnd pipe c.board e.congestion)
-    (allowed_of (λ _. c.board.smss ≤ e.congestion.cwnd - pipe) (has_room_for_segment pipe c.board e.congestion) (new_segment_on_board e.rwnd c.board)
+    (allowed_of (λ _. c.board.smss ≤ e.congestion.cwnd - pipe) (has_room_for_segment pipe c.board e.congestion) (new_segment_on_board_within_rwnd e.rwnd c.board)
     (λ t _ _. is_within c.board.smss (e.congestion.cwnd - pipe) t))
 
 -- Octets that are SACKed
@@ -232,7 +232,7 @@ above_spared s segment known above x from to =
 
 pub ordinary_spared : SparesSacked → (c : ConnectionView) (e : Established) → IsBoardView c.board → AllOf (IsSpared c.board) (ordinary_segment c e)
 ordinary_spared spares c e known =
-    branch_of (IsSpared c.board) (nat_lt c.board.next c.board.top) (next_retransmit_segment c e) (next_new_segment c e)
+    branch_of (IsSpared c.board) (nat_lt c.board.next c.board.top) (retransmit_segment_at_next_if_in_windows c e) (next_new_segment c e)
     (λ _ segment h. subst (IsSpared c.board) (sym (again_within c e segment h).0) (spares.again c.board c.board.next))
     (λ t segment h. above_spared c.board segment known
     (subst (λ (n : ℕ). c.board.top ≤ n) (sym (new_within c e segment h).0) (at_most c.board.next c.board.top t)))
@@ -247,7 +247,7 @@ at_top start top e = omega (arith, e)
 
 limited_spared : (rwnd pipe : ℕ) (s : BoardView) (w : CongView) → IsBoardView s → AllOf (IsSpared s) (limited_transmit_segment rwnd pipe s w)
 limited_spared rwnd pipe s w known =
-    allowed_of (IsSpared s) (has_room_for_segment pipe s w) (new_segment_on_board rwnd s)
+    allowed_of (IsSpared s) (has_room_for_segment pipe s w) (new_segment_on_board_within_rwnd rwnd s)
     (λ _ segment e. above_spared s segment known (at_top segment.start s.top (data_flow rwnd s segment e).0))
 
 pub filling_spared : SparesSacked → (filling : WindowFill) (pipe : ℕ) (c : ConnectionView) (e : Established) → IsBoardView c.board

@@ -11,7 +11,7 @@ use Rattle.pd_seg.specs.declared.segments.Sent.{Sent}
 use Rattle.pd_timer.specs.Rto.{initial, started}
 use Rattle.pd_host.specs.Arrivals.{check_outcome, goes_on, finished_on, finished_by, arrived_on, failed_check_of, with_connection}
 use Rattle.pd_host.specs.Connection.{ConnectionView}
-use Rattle.pd_host.specs.Handshake.{can_begin_connection, connection_begun, answered_syn, established_by, syn_acked, syn_octet, syn_settings, establishment_settings, offered_mss, offered_count, offers_sack, scaled_window_in}
+use Rattle.pd_host.specs.Handshake.{is_supported_syn_for_listener, connection_begun, answered_syn, established_by, syn_acked, syn_octet, syn_settings, establishment_settings, offered_mss, offered_count, offers_sack, scaled_window_in}
 use Rattle.pd_host.specs.RttSegment.{with_sample, with_handshake_timer_ended}
 use Rattle.pd_host.specs.declared.established.PeerFin.TheVariants.{Awaited}
 use Rattle.pd_host.specs.declared.descriptors.StreamState.TheVariants.{Waiting}
@@ -167,7 +167,7 @@ on_connection : (o : Option ConnectionView) (segment : Segment) (now : ℕ) (s t
     → arrived_on now segment s o ≡ Ok t
     → Agree t.consulted_settings s.settings b
     → arrived_on now segment (with_settings b s) o ≡ again b (arrived_on now segment s o)
-on_connection None segment now s t b h agree = opening (can_begin_connection s.endpoint.listener segment) segment now s t b h agree
+on_connection None segment now s t b h agree = opening (is_supported_syn_for_listener s.endpoint.listener segment) segment now s t b h agree
 on_connection (Some c) segment now s t b h agree =
     both_again b now segment t c s (failed_check_of c segment) (check_outcome now segment c s (failed_check_of c segment)) (check_outcome now segment c (with_settings b s) (failed_check_of c segment))
     (λ u e k. by_ruling (failed_check_of c segment) segment now s u c b e k) h agree

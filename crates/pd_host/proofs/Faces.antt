@@ -4,7 +4,7 @@ use Rattle.std.specs.Prelude.{option_map}
 use Rattle.pd_seg.specs.declared.segments.Segment.{Segment}
 use Rattle.pd_host.specs.AckEffects.{newly_acked, can_update_window, with_number, with_blocks, with_timing, with_ack, taking}
 use Rattle.pd_host.specs.Arrivals.{with_peer_fin}
-use Rattle.pd_host.specs.ConnStates.{synchronized_state, state_after_handshake, state_of, state_on}
+use Rattle.pd_host.specs.ConnStates.{state_from_fins_and_all_acked, state_after_handshake, state_of, state_on}
 use Rattle.pd_host.specs.Connection.{ConnectionView}
 use Rattle.pd_host.specs.Handshake.{scaled_window_in, with_window}
 use Rattle.pd_host.specs.declared.connection.states.ConnState.{ConnState}
@@ -40,7 +40,7 @@ faces (Some c) = Some (face c)
 
 abbrev pub since : Option PeerFin → Bool → Bool → ConnState
 since None fin acked = SynReceived
-since (Some p) fin acked = synchronized_state p fin acked
+since (Some p) fin acked = state_from_fins_and_all_acked p fin acked
 
 abbrev pub named : Face → ConnState
 named f = if f.is_reset then Closed else since f.peer f.fin f.acked

@@ -7,11 +7,11 @@ use Rattle.pd_recover.specs.declared.ack_action.AckAction.TheVariants.{Ordinary,
 use Rattle.pd_recover.specs.declared.next_segment.NextSegment.{NextSegment}
 use Rattle.pd_recover.specs.declared.next_segment.NextSegment.TheVariants.{Lost, New, Hole, Rescue}
 use Rattle.pd_seg.specs.declared.sack_spans.Span.{Span}
-use Rattle.pd_host.specs.AckEffects.{OnTheWay, next_fill, sent_as, fill_noted_on, one_filled, pipe_of, filled, put_out_data_segment, entered_on, entry, after_ack_action}
+use Rattle.pd_host.specs.AckEffects.{OnTheWay, next_fill, sent_as, fill_noted_on, one_filled, pipe_of, filled, push_data_segment_to_outbox, entered_on, entry, after_ack_action}
 use Rattle.pd_host.specs.Connection.{ConnectionView}
 use Rattle.pd_host.specs.OutboxLimit.{has_place}
 use Rattle.pd_host.specs.Sending.{value_on, places_left, with_begun_connection, restarted_if_idle, with_next_past_sacked, sent_on, with_segment, found, sent_ordinarily, ready, ordinary}
-use Rattle.pd_host.specs.RttSegment.{timing_started, rtt_segment_after}
+use Rattle.pd_host.specs.RttSegment.{timing_started, rtt_segment_after_sending}
 use Rattle.pd_host.specs.declared.established.Established.{Established}
 use Rattle.pd_host.specs.declared.connection.ack_effects.WindowFill.{WindowFill}
 use Rattle.pd_host.specs.declared.connection.ack_effects.WindowFill.TheVariants.{NextSeg, NewData}
@@ -29,7 +29,7 @@ window_end c o = value_on 0 (λ d e. d.board.una + e.rwnd) c o
 -- a segment that the windows let leave is sent from a connection, which becomes another one
 pub record IsSending (now : ℕ) (segment : Span) (c d : ConnectionView) : Type 0 where
   pub stays : still d ≡ still c
-  pub rtt_segment : d.rtt_segment ≡ rtt_segment_after now segment c.board.top c.rtt_segment
+  pub rtt_segment : d.rtt_segment ≡ rtt_segment_after_sending now segment c.board.top c.rtt_segment
   pub low : d.board.top ≤ max c.board.top segment.end
   pub high : c.board.top ≤ d.board.top
   pub within : segment.end ≤ d.board.top
@@ -68,7 +68,7 @@ none_new start end top last below above some = absurd (omega (arith, below, abov
 
 -- new octets
 new_octets : (now : ℕ) (segment : Span) (c d : ConnectionView) → still d ≡ still c
-    → d.rtt_segment ≡ rtt_segment_after now segment c.board.top c.rtt_segment → d.board.top ≡ max c.board.top segment.end
+    → d.rtt_segment ≡ rtt_segment_after_sending now segment c.board.top c.rtt_segment → d.board.top ≡ max c.board.top segment.end
     → (c.board.top < segment.end → segment.end ≤ window_end c c.established)
     → (c.board.top ≤ segment.start → segment.start < segment.end → segment.end ≤ c.board.end) → IsSending now segment c d
 new_octets now segment c d stays rtt_segment top allowed queued = record {
@@ -83,7 +83,7 @@ new_octets now segment c d stays rtt_segment top allowed queued = record {
 
 -- octets again
 old_octets : (now : ℕ) (segment : Span) (c d : ConnectionView) → still d ≡ still c
-    → d.rtt_segment ≡ rtt_segment_after now segment c.board.top c.rtt_segment → d.board.top ≡ c.board.top
+    → d.rtt_segment ≡ rtt_segment_after_sending now segment c.board.top c.rtt_segment → d.board.top ≡ c.board.top
     → segment.end ≤ c.board.top → IsSending now segment c d
 old_octets now segment c d stays rtt_segment top below = record {
   stays = stays;
@@ -221,7 +221,7 @@ module _ (now : ℕ) (R : SenderState → SenderState → Type 0) (rules : Goes 
       (places_left s) (s, pipe_of s.endpoint.connection) h)
 
   put_goes : (segment : Span) (c d : ConnectionView) (s : SenderState) → s.endpoint.connection ≡ Some c → IsSending now segment c d
-      → Leaves (R s) (put_out_data_segment now segment c d s)
+      → Leaves (R s) (push_data_segment_to_outbox now segment c d s)
   put_goes segment c d s e h =
       either (R s) (has_place s.endpoint.outbox) (Ok (with_segment now segment c d s)) (Err Limit) (rules.sent segment c d s e h) tt
 
@@ -230,7 +230,7 @@ module _ (now : ℕ) (R : SenderState → SenderState → Type 0) (rules : Goes 
       let segment : Span = run_at c.board.una c.board in
       let sent : ConnectionView = entered_on segment (timing_started now segment c) c.established in
       let moved : ConnectionView = entered_on segment c c.established in
-      either (R s) (nat_lt segment.start segment.end) (put_out_data_segment now segment c sent s) (Ok (with_begun_connection moved s))
+      either (R s) (nat_lt segment.start segment.end) (push_data_segment_to_outbox now segment c sent s) (Ok (with_begun_connection moved s))
       (put_goes segment c sent s e (entry_sending now segment c (run_end c.board c.board.una)))
       (rules.moved c moved s e (entry_moved segment c))
 
@@ -243,7 +243,7 @@ module _ (now : ℕ) (R : SenderState → SenderState → Type 0) (rules : Goes 
   led_to_goes c s (NewSegment segment) e h =
       put_goes segment c (sent_on now segment c) s e (new_octets now segment c (sent_on now segment c) refl refl refl (λ _. h.0) (λ _ _. h.1))
   led_to_goes c s (FastRetransmit segment) e h =
-      then_leaves (R s) (R s) (ordinary now) (put_out_data_segment now segment c (timing_started now segment c) s)
+      then_leaves (R s) (R s) (ordinary now) (push_data_segment_to_outbox now segment c (timing_started now segment c) s)
       (put_goes segment c (timing_started now segment c) s e (old_octets now segment c (timing_started now segment c) refl refl refl h))
       (λ t so_far. ordinary_goes s t so_far)
   led_to_goes c s Nothing e h = rules.none s

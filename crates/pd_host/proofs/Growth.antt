@@ -11,7 +11,7 @@ use Rattle.pd_board.specs.Board.{BoardView, with_sacked_block, has_new}
 use Rattle.pd_recover.specs.declared.next_segment.NextSegment.{NextSegment}
 use Rattle.pd_recover.specs.declared.next_segment.NextSegment.TheVariants.{Lost, New, Hole, Rescue}
 use Rattle.pd_host.specs.AckEffects.{is_block_sent, with_block_marked, with_blocks_marked, blocks_of, blocks_marked, with_number, with_blocks, newly_acked, with_timing, with_new_window, can_update_window, fill_noted_on, sent_as, entered_on, with_ack, taking}
-use Rattle.pd_host.specs.Calls.{Descriptor, Listening, Connected, Reply, answered, with_listener, with_stored, with_stream, with_queued, with_fin, with_answer, socket_reply, bind_reply, listen_reply, accept_reply, handed_out, no_delay_reply, queued, free_of, write_settings, written_on, write_reply, closed_stream, closed_on, close_reply, operated, on_open, open_descriptor, requested, called, has_unaccepted_connection, is_unaccepted, stream_of}
+use Rattle.pd_host.specs.Calls.{Descriptor, Listening, Connected, Reply, answered, with_listener, with_stored, with_stream, with_queued, with_fin, with_answer, socket_reply, bind_reply, listen_reply, accept_reply, handed_out, no_delay_reply, queued, free_of, write_settings, written_on, write_reply, closed_stream, closed_on, close_reply, operated, on_open, open_descriptor, requested, called, has_begun_unaccepted_connection, is_unaccepted, stream_of}
 use Rattle.pd_host.specs.Connection.{ConnectionView}
 use Rattle.pd_host.specs.Expiries.{advanced, deadline_of, due_by, expired, expired_on}
 use Rattle.pd_host.specs.Growth.{asked_of, asked_by, ExpiriesQueueNothing, ArrivalsQueueOurSyn, CallsQueueWhatTheyAsk, CallsAskFew}
@@ -258,7 +258,7 @@ closed_ends now s c is =
 
 close_ends : (now : ℕ) (s : SenderState) (d : Descriptor) → IsOpenOn s d → AtMost (queued_to s.endpoint.connection + 1) (close_reply now s d)
 close_ends now s Listening unclosed =
-    by_test (AtMost (queued_to s.endpoint.connection + 1)) (has_unaccepted_connection s.endpoint.connection) (Err Unsupported) (answered (with_listener Closed s) (Number 0))
+    by_test (AtMost (queued_to s.endpoint.connection + 1)) (has_begun_unaccepted_connection s.endpoint.connection) (Err Unsupported) (answered (with_listener Closed s) (Number 0))
     (λ _. tt) (λ _. more (queued_to s.endpoint.connection) 1)
 close_ends now s (Connected c) unclosed = closed_ends now s c unclosed.0
 

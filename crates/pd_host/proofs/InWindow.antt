@@ -17,7 +17,7 @@ use Rattle.pd_host.specs.Calls.{called}
 use Rattle.pd_host.specs.Arrivals.{check_outcome, arrived_on, arrived, failed_check_of, reset_of, with_peer_fin}
 use Rattle.pd_host.specs.Connection.{ConnectionView, data_end}
 use Rattle.pd_host.specs.Expiries.{first_again, segment_again, connection_expired, expired, advanced}
-use Rattle.pd_host.specs.Handshake.{can_begin_connection, connection_begun, answered_syn, syn_settings, established_by, establishment_settings}
+use Rattle.pd_host.specs.Handshake.{is_supported_syn_for_listener, connection_begun, answered_syn, syn_settings, established_by, establishment_settings}
 use Rattle.pd_host.specs.Packets.{data_of, covers_fin, ack_of, refusal_of, syn_ack_of}
 use Rattle.pd_host.specs.Host.{beside, with_outbox}
 use Rattle.pd_host.specs.Sending.{places_left, with_begun_connection, with_segment}
@@ -310,7 +310,7 @@ on_connection : (o : Option ConnectionView) (segment : Segment) (now : ℕ) (s :
     → Leaves (PutsOutInWindow s) (arrived_on now segment s o)
 on_connection None segment now s e =
     let c : ConnectionView = connection_begun now s.settings segment in
-    either (PutsOutInWindow s) (can_begin_connection s.endpoint.listener segment) (answered_syn now c s) (Err Unsupported)
+    either (PutsOutInWindow s) (is_supported_syn_for_listener s.endpoint.listener segment) (answered_syn now c s) (Err Unsupported)
     (one_out (nat_lt (length s.endpoint.outbox) 1024) now (syn_ack_of c) (record s { consulted_settings = syn_settings s.consulted_settings }) s
     (record s.endpoint { connection = Some c }) refl (below_self 0)) tt
 on_connection (Some c) segment now s e =

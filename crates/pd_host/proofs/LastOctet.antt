@@ -1,4 +1,4 @@
--- The FIN is the last octet that is queued, and `close_stream` alone queues it.
+-- The FIN is the last octet that is queued, and `close` alone queues it.
 use Rattle.std.proofs.Common.{◌≡◌, ◌⊎◌, inl, inr, ℕ, ◌==◌, ◌<◌, ◌≤◌, min, Bool, true, false, true≢false, ◌&&◌, nat_lt, nat_le, if◌then◌else◌, Option, None, Some, is_some, Ok, Err, refl, sym, ap, ◌∙◌, arith}
 use Rattle.std.proofs.lemmas.Bool.Decides.{nat_tests}
 use Rattle.pd_script.specs.declared.calls.Call.{Call}
@@ -6,7 +6,7 @@ use Rattle.pd_seg.specs.declared.call_results.Answer.{Answer}
 use Rattle.pd_seg.specs.declared.call_results.Answer.TheVariants.{Number, Error}
 use Rattle.pd_seg.specs.declared.call_results.Errno.TheVariants.{Eagain, Epipe}
 use Rattle.pd_seg.specs.declared.sack_spans.Span.{Span}
-use Rattle.pd_host.specs.Calls.{Descriptor, Listening, Connected, Reply, answered, with_listener, with_stored, socket_reply, bind_reply, listen_reply, accept_reply, handed_out, no_delay_reply, free_of, with_queued, write_settings, queued, written_on, write_reply, operated, on_open, open_descriptor, reply_to, requested, called, has_unaccepted_connection, is_unaccepted, is_open, stream_of, with_stream}
+use Rattle.pd_host.specs.Calls.{Descriptor, Listening, Connected, Reply, answered, with_listener, with_stored, socket_reply, bind_reply, listen_reply, accept_reply, handed_out, no_delay_reply, free_of, with_queued, write_settings, queued, written_on, write_reply, operated, on_open, open_descriptor, reply_to, requested, called, has_begun_unaccepted_connection, is_unaccepted, is_open, stream_of, with_stream}
 use Rattle.pd_host.specs.Connection.{ConnectionView, data_end}
 use Rattle.pd_host.specs.Packets.{data_of}
 use Rattle.pd_host.specs.Syscalls.{syscall_of}
@@ -49,7 +49,7 @@ ends_before c segment = lesser segment.end (data_end c)
 equal : (m n : ℕ) → (m == n) ≡ true → m ≡ n
 equal m n h = grind (arith, nat_tests)
 
--- Only `close_stream` queues the FIN
+-- Only `close` queues the FIN
 
 abbrev fins : Option ConnectionView → Bool
 fins None = false
@@ -118,7 +118,7 @@ operated_fin now fd s (Some d) (NoDelay set) e = inr (no_delay_fin s set d (open
 operated_fin now fd s (Some d) SetFlags e = inr refl
 operated_fin now fd s (Some d) (Write n) e = inr (write_fin now s n d (open_on s fd d e))
 operated_fin now fd s (Some Listening) Close e =
-    inr (either_reply (SameFin s) (has_unaccepted_connection s.endpoint.connection) (Err Unsupported) (answered (with_listener Closed s) (Number 0)) tt refl)
+    inr (either_reply (SameFin s) (has_begun_unaccepted_connection s.endpoint.connection) (Err Unsupported) (answered (with_listener Closed s) (Number 0)) tt refl)
 operated_fin now fd s (Some (Connected c)) Close e =
     inl (ap (λ (n : ℕ). On n Close) (equal fd 4 (connected s.endpoint fd c e).0))
 
@@ -147,7 +147,7 @@ pub only_close_queues : (call : Call) (now : ℕ) (s t : SenderState) (a : Answe
 only_close_queues call now s t a c d hc hd before after h =
     asked now s t a (syscall_of call) (ap fins hc ∙ before, ap fins hd ∙ after) h
 
--- After `close_stream` no call moves the connection
+-- After `close` no call moves the connection
 
 abbrev SameConnection : SenderState → SenderState → Type 0
 SameConnection s t = t.endpoint.connection ≡ s.endpoint.connection
@@ -193,7 +193,7 @@ listening_same now s c (NoDelay set) e closed = refl
 listening_same now s c SetFlags e closed = refl
 listening_same now s c (Write n) e closed = refl
 listening_same now s c Close e closed =
-    either_reply (SameConnection s) (has_unaccepted_connection s.endpoint.connection) (Err Unsupported) (answered (with_listener Closed s) (Number 0)) tt refl
+    either_reply (SameConnection s) (has_begun_unaccepted_connection s.endpoint.connection) (Err Unsupported) (answered (with_listener Closed s) (Number 0)) tt refl
 
 given_some : (d c : ConnectionView) → Some d ≡ Some c → d ≡ c
 given_some d c e = cc

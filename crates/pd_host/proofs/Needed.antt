@@ -4,7 +4,7 @@ use Rattle.std.specs.Prelude.{nat_eq}
 use Rattle.std.proofs.lemmas.Bool.Decides.{nat_tests}
 use Rattle.pd_board.specs.Loss.{dup_thresh}
 use Rattle.pd_recover.proofs.Cases.{either}
-use Rattle.pd_recover.specs.Acks.{acked, renewed, acked_by, acked_with_sack, acked_without_sack, selective_duplicate, plain_duplicate, limited_transmit, sent_limited, new_segment_within_rwnd, dup_ack_counted, grown_by, entered, is_duplicate}
+use Rattle.pd_recover.specs.Acks.{acked, renewed, acked_by, acked_with_sack, acked_without_sack, selective_duplicate, plain_duplicate, limited_transmit, sent_limited, new_segment_within_rwnd, dup_ack_counted, grown_by, entered, is_rfc5681_duplicate}
 use Rattle.pd_recover.specs.Cong.{CongView, grown}
 use Rattle.pd_recover.specs.declared.ack.Ack.{Ack}
 use Rattle.pd_recover.specs.declared.ack.SackNews.{SackNews}
@@ -116,12 +116,12 @@ module _ (ack : Ack) (w : CongView) where
         (limited_keeps (dup_ack_counted w) ∙ repeats.idle) refl (exact w.dup_acks dup_thresh few)
         ∙ not_few w.dup_acks dup_thresh few
 
-    pub number_begins : w.recovery_point ≤ ack.una → ack.sack ≡ None → is_duplicate ack ≡ true → w.dup_acks < dup_thresh
+    pub number_begins : w.recovery_point ≤ ack.una → ack.sack ≡ None → is_rfc5681_duplicate ack ≡ true → w.dup_acks < dup_thresh
         → goes_on (acked ack w) ≡ nat_le dup_thresh (w.dup_acks + 1)
     number_begins past so duplicate few =
         ap goes_on
         (told_so None so
-        ∙ duplicate_so (nat_lt 0 ack.acked) (is_duplicate ack) (nat_le w.recovery_point ack.una) _ _ _ none_new duplicate (at_least ack.una w.recovery_point past))
+        ∙ duplicate_so (nat_lt 0 ack.acked) (is_rfc5681_duplicate ack) (nat_le w.recovery_point ack.una) _ _ _ none_new duplicate (at_least ack.una w.recovery_point past))
         ∙ plain_begins few
 
     below_by : (fresh lost : Bool) → ack.una < w.recovery_point
@@ -131,7 +131,7 @@ module _ (ack : Ack) (w : CongView) where
 
     below_told : (o : Option SackNews) → ack.una < w.recovery_point → goes_on (acked_by ack o w) ≡ false
     below_told None l =
-        ap goes_on (other_so (nat_lt 0 ack.acked) (is_duplicate ack) (nat_le w.recovery_point ack.una) _ _ _ none_new (not_at_least ack.una w.recovery_point l))
+        ap goes_on (other_so (nat_lt 0 ack.acked) (is_rfc5681_duplicate ack) (nat_le w.recovery_point ack.una) _ _ _ none_new (not_at_least ack.una w.recovery_point l))
         ∙ repeats.idle
     below_told (Some sack_news) l = ap goes_on (selective_so sack_news) ∙ below_by sack_news.fresh sack_news.lost l
 

@@ -2,7 +2,7 @@
 use Rattle.std.proofs.Common.{◌≡◌, refl, ◌≤◌, ◌&&◌, ◌||◌, Bool, true, false, if◌then◌else◌, nat_lt, nat_le, ◌∷◌, [], Option, None, Some}
 use Rattle.std.specs.Prelude.{is_some}
 use Rattle.pd_seg.specs.declared.segments.Segment.{Segment}
-use Rattle.pd_host.specs.Arrivals.{first_failed_check, failed_check_of, is_in_window, is_stray_fin}
+use Rattle.pd_host.specs.Arrivals.{first_failed_check, failed_check_of, is_in_window, has_in_window_fin_out_of_order}
 use Rattle.pd_host.specs.ConnStates.{state_after_handshake, state_of, is_closed}
 use Rattle.pd_host.specs.Connection.{ConnectionView}
 use Rattle.pd_host.specs.Handshake.{length_of}
@@ -73,11 +73,11 @@ pub record Passes (c : ConnectionView) (segment : Segment) : Type 0 where
 
 pub passes : (c : ConnectionView) (segment : Segment) → failed_check_of c segment ≡ None → Passes c segment
 passes c segment h =
-    let k = none_rules (nat_lt 0 (length_of segment) || (segment.flags.syn || (is_stray_fin c segment || is_closed (state_of c)))) (is_in_window c segment) segment.flags.rst _ segment.flags.ack
+    let k = none_rules (nat_lt 0 (length_of segment) || (segment.flags.syn || (has_in_window_fin_out_of_order c segment || is_closed (state_of c)))) (is_in_window c segment) segment.flags.rst _ segment.flags.ack
     (is_some c.established) (nat_lt c.board.una segment.ack && nat_le segment.ack c.board.top)
     (nat_lt c.board.top segment.ack) (nat_lt segment.ack c.board.una) h in
     record {
-      live = open_live c (last_of_four (nat_lt 0 (length_of segment)) segment.flags.syn (is_stray_fin c segment) (is_closed (state_of c)) k.0);
+      live = open_live c (last_of_four (nat_lt 0 (length_of segment)) segment.flags.syn (has_in_window_fin_out_of_order c segment) (is_closed (state_of c)) k.0);
       from = ge segment.ack c.board.una k.2;
       to = ge c.board.top segment.ack k.1;
     }
@@ -85,6 +85,6 @@ passes c segment h =
 -- the first ACK comes before a reset, in the handshake
 pub first_comes : (c : ConnectionView) (segment : Segment) → failed_check_of c segment ≡ Some FirstAck → (c.is_reset ≡ false) × (c.established ≡ None)
 first_comes c segment h =
-    let k = shakes (nat_lt 0 (length_of segment) || (segment.flags.syn || (is_stray_fin c segment || is_closed (state_of c)))) (is_in_window c segment) segment.flags.rst _ segment.flags.ack
+    let k = shakes (nat_lt 0 (length_of segment) || (segment.flags.syn || (has_in_window_fin_out_of_order c segment || is_closed (state_of c)))) (is_in_window c segment) segment.flags.rst _ segment.flags.ack
     (is_some c.established) (nat_lt c.board.una segment.ack && nat_le segment.ack c.board.top) _ _ h in
-    (open_live c (last_of_four (nat_lt 0 (length_of segment)) segment.flags.syn (is_stray_fin c segment) (is_closed (state_of c)) k.0), nothing_found c.established k.1)
+    (open_live c (last_of_four (nat_lt 0 (length_of segment)) segment.flags.syn (has_in_window_fin_out_of_order c segment) (is_closed (state_of c)) k.0), nothing_found c.established k.1)

@@ -13,7 +13,7 @@ use Rattle.pd_recover.specs.Laws.{forces, SendsInProportion, CountsRecovery, Spa
 use Rattle.pd_recover.specs.declared.ack.Ack.{Ack}
 use Rattle.pd_recover.specs.declared.ack_action.AckAction.{AckAction}
 use Rattle.pd_recover.specs.declared.ack_action.AckAction.TheVariants.{StepC, Entry}
-use Rattle.pd_host.specs.AckEffects.{cwnd_after, octets_of, pipe_of, filled, put_out_data_segment, entered_on, entry, after_ack_action, ack_of_segment, newly_acked, delivery, with_ack, taking, ack_taken}
+use Rattle.pd_host.specs.AckEffects.{cwnd_after, octets_of, pipe_of, filled, push_data_segment_to_outbox, entered_on, entry, after_ack_action, ack_of_segment, newly_acked, delivery, with_ack, taking, ack_taken}
 use Rattle.pd_host.specs.Connection.{ConnectionView}
 use Rattle.pd_host.specs.Packets.{data_of}
 use Rattle.pd_host.specs.OutboxLimit.{has_place}

@@ -7,7 +7,7 @@ use Rattle.pd_recover.specs.declared.next_segment.NextSegment.{NextSegment}
 use Rattle.pd_seg.specs.declared.sack_spans.Span.{Span}
 use Rattle.pd_seg.specs.declared.segments.Segment.{Segment}
 use Rattle.pd_settings.specs.declared.settings.Settings.{Settings}
-use Rattle.pd_host.specs.AckEffects.{OnTheWay, one_filled, sender_of, pipe_of, filled, put_out_data_segment, entered_on, entry, after_ack_action, taking, ack_taken}
+use Rattle.pd_host.specs.AckEffects.{OnTheWay, one_filled, sender_of, pipe_of, filled, push_data_segment_to_outbox, entered_on, entry, after_ack_action, taking, ack_taken}
 use Rattle.pd_host.specs.Connection.{ConnectionView}
 use Rattle.pd_host.specs.InputLaws.{with_settings}
 use Rattle.pd_host.specs.OutboxLimit.{has_place}
@@ -64,7 +64,7 @@ filled_again b now filling s =
     ∙ sender_again b (repeated (fill_finds filling) (fill_sends now filling) (places_left s) t)
 
 put_again : (b : Settings) (now : ℕ) (segment : Span) (before after : ConnectionView) (s : SenderState)
-    → put_out_data_segment now segment before after (with_settings b s) ≡ again b (put_out_data_segment now segment before after s)
+    → push_data_segment_to_outbox now segment before after (with_settings b s) ≡ again b (push_data_segment_to_outbox now segment before after s)
 put_again b now segment before after s =
     either_mapped (with_settings b) (has_place s.endpoint.outbox) (Ok (with_segment now segment before after s)) (Err Limit)
     (Ok (with_segment now segment before after (with_settings b s))) (Err Limit) refl refl
@@ -74,8 +74,8 @@ entry_again b now c s =
     let segment : Span = run_at c.board.una c.board in
     let sent : ConnectionView = entered_on segment (timing_started now segment c) c.established in
     let moved : ConnectionView = entered_on segment c c.established in
-    either_mapped (with_settings b) (nat_lt segment.start segment.end) (put_out_data_segment now segment c sent s) (Ok (with_begun_connection moved s))
-    (put_out_data_segment now segment c sent (with_settings b s)) (Ok (with_begun_connection moved (with_settings b s)))
+    either_mapped (with_settings b) (nat_lt segment.start segment.end) (push_data_segment_to_outbox now segment c sent s) (Ok (with_begun_connection moved s))
+    (push_data_segment_to_outbox now segment c sent (with_settings b s)) (Ok (with_begun_connection moved (with_settings b s)))
     (put_again b now segment c sent s) refl
 
 led_to_again : (b : Settings) (now : ℕ) (c : ConnectionView) (s : SenderState) (next : AckAction) → after_ack_action now c (with_settings b s) next ≡ again b (after_ack_action now c s next)
@@ -87,7 +87,7 @@ led_to_again b now c s LimitedTransmit = filled_again b now NewData s
 led_to_again b now c s (NewSegment segment) = put_again b now segment c (sent_on now segment c) s
 led_to_again b now c s (FastRetransmit segment) =
     ap (then_on (ordinary now)) (put_again b now segment c (timing_started now segment c) s)
-    ∙ then_mapped (with_settings b) (with_settings b) (ordinary now) (put_out_data_segment now segment c (timing_started now segment c) s) (ordinary_again b now)
+    ∙ then_mapped (with_settings b) (with_settings b) (ordinary now) (push_data_segment_to_outbox now segment c (timing_started now segment c) s) (ordinary_again b now)
 led_to_again b now c s Nothing = refl
 
 -- taking a segment consults no settings

@@ -2,20 +2,20 @@
 use Rattle.std.proofs.Common.{◌≡◌, ℕ, ◌+◌, ◌-◌, ◌<◌, ◌≤◌, ◌&&◌, max, min, nat_lt, nat_le, Bool, true, false, if◌then◌else◌, Option, Some, None, refl, arith}
 use Rattle.std.specs.Prelude.{option_map}
 use Rattle.pd_seg.specs.declared.sack_spans.Span.{Span}
-use Rattle.pd_board.specs.Retransmit.{run_at, next_lost, next_hole, rescue, segment_to}
+use Rattle.pd_board.specs.Retransmit.{run_at, next_lost, find_unsacked_octet_by_nextseg_rule_3, rescue, segment_to}
 use Rattle.pd_board.specs.Loss.{is_unsacked}
 use Rattle.pd_board.specs.Octets.{contains, greatest_where, after}
 use Rattle.pd_board.specs.Board.{BoardView}
 use Rattle.pd_recover.specs.declared.next_segment.NextSegment.{NextSegment}
 use Rattle.pd_recover.specs.declared.next_segment.NextSegment.TheVariants.{Lost, New, Hole, Rescue}
-use Rattle.pd_recover.specs.NextSeg.{lost_run, new_segment_on_board, hole_run, rescue_run, next_send, step_c_segment, limited_transmit_segment, has_room_for_segment}
+use Rattle.pd_recover.specs.NextSeg.{lost_run, new_segment_on_board_within_rwnd, hole_run, rescue_run, next_send, step_c_segment, limited_transmit_segment, has_room_for_segment}
 use Rattle.pd_recover.specs.Cong.{CongView}
 use Rattle.pd_recover.proofs.Chosen.{AllOf, one_of, either_of, map_of, allowed_of}
 use Rattle.pd_recover.proofs.Found.{least, greatest}
 use Rattle.pd_host.specs.AckEffects.{next_by}
 use Rattle.pd_host.specs.Connection.{ConnectionView}
 use Rattle.pd_host.specs.Invariants.{IsOrdered}
-use Rattle.pd_host.specs.Sending.{next_retransmit_segment, next_new_segment, can_new_segment_leave, sendable_octets, window_edge}
+use Rattle.pd_host.specs.Sending.{retransmit_segment_at_next_if_in_windows, next_new_segment, may_leave_by_sws_and_nagle, unsent_octets_in_usable_window, una_plus_smaller_window}
 use Rattle.pd_host.specs.Sending as sending
 use Rattle.pd_host.specs.declared.established.Established.{Established}
 use Rattle.pd_host.specs.declared.connection.ack_effects.WindowFill.{WindowFill}
@@ -65,7 +65,7 @@ run_again s x from to = record {
   outstanding = omega (arith, from, to);
 }
 
-pub data_new : (rwnd : ℕ) (s : BoardView) → AllOf (IsNew s) (new_segment_on_board rwnd s)
+pub data_new : (rwnd : ℕ) (s : BoardView) → AllOf (IsNew s) (new_segment_on_board_within_rwnd rwnd s)
 data_new rwnd s =
     allowed_of (IsNew s) _ _ (λ passed.
     let some : s.top < s.top + min s.smss (s.end - s.top) = lt _ _ (first_of_two _ _ passed) in
@@ -88,8 +88,8 @@ rescue_again s some =
 pub next_fits : (rwnd : ℕ) (s : BoardView) (w : CongView) → IsOrdered s → AllOf (IsNext s) (next_send rwnd s w)
 next_fits rwnd s w known =
     either_of (IsNext s) (lost_run s w) _ (map_of (IsNext s) (λ x. Lost (run_at x s)) (next_lost w.high_rxt s) (λ x e. let h = least _ s.una s.top x e in run_again s x h.from h.to))
-    (either_of (IsNext s) (option_map (λ segment. New segment) (new_segment_on_board rwnd s)) _ (map_of (IsNext s) (λ segment. New segment) (new_segment_on_board rwnd s) (data_new rwnd s))
-    (either_of (IsNext s) (hole_run s w) (rescue_run s w) (map_of (IsNext s) (λ x. Hole (run_at x s)) (next_hole w.high_rxt s) (λ x e. let h = least _ s.una s.top x e in run_again s x h.from h.to))
+    (either_of (IsNext s) (option_map (λ segment. New segment) (new_segment_on_board_within_rwnd rwnd s)) _ (map_of (IsNext s) (λ segment. New segment) (new_segment_on_board_within_rwnd rwnd s) (data_new rwnd s))
+    (either_of (IsNext s) (hole_run s w) (rescue_run s w) (map_of (IsNext s) (λ x. Hole (run_at x s)) (find_unsacked_octet_by_nextseg_rule_3 w.high_rxt s) (λ x e. let h = least _ s.una s.top x e in run_again s x h.from h.to))
     (allowed_of (IsNext s) _ _ (λ _. map_of (IsNext s) (λ segment. Rescue segment) (rescue s) (rescue_again s (omega (arith, known.smss_low)))))))
 
 step_c_fits : (rwnd pipe : ℕ) (s : BoardView) (w : CongView) → IsOrdered s → AllOf (IsNext s) (step_c_segment rwnd pipe s w)
@@ -105,10 +105,10 @@ filling_fits NewData pipe c e known =
 
 -- ordinary sending
 
-again_leaves : (c : ConnectionView) (e : Established) → IsOrdered c.board → c.board.next < c.board.top → AllOf (CanLeave c.board) (next_retransmit_segment c e)
+again_leaves : (c : ConnectionView) (e : Established) → IsOrdered c.board → c.board.next < c.board.top → AllOf (CanLeave c.board) (retransmit_segment_at_next_if_in_windows c e)
 again_leaves c e h below =
     let run = run_within c.board.next c.board h.next_top in
-    allowed_of (CanLeave c.board) (nat_le (run_at c.board.next c.board).end (window_edge c e)) _ (λ _. one_of (CanLeave c.board) _ (record {
+    allowed_of (CanLeave c.board) (nat_le (run_at c.board.next c.board).end (una_plus_smaller_window c e)) _ (λ _. one_of (CanLeave c.board) _ (record {
       from = omega (arith, run.0, h.una_next);
       to = omega (arith, run.1, h.top_end);
       outstanding = omega (arith, h.una_next, below);
@@ -117,8 +117,8 @@ again_leaves c e h below =
 
 new_can_leave : (c : ConnectionView) (e : Established) → IsOrdered c.board → c.board.top ≤ c.board.next → AllOf (CanLeave c.board) (next_new_segment c e)
 new_can_leave c e h above =
-    allowed_of (CanLeave c.board) (nat_lt 0 (sendable_octets c e) && can_new_segment_leave c e) _ (λ passed.
-    let some : 0 < sendable_octets c e = lt _ _ (first_of_two _ _ passed) in
+    allowed_of (CanLeave c.board) (nat_lt 0 (unsent_octets_in_usable_window c e) && may_leave_by_sws_and_nagle c e) _ (λ passed.
+    let some : 0 < unsent_octets_in_usable_window c e = lt _ _ (first_of_two _ _ passed) in
     one_of (CanLeave c.board) _ (record {
       from = omega (arith, h.una_next);
       to = omega (arith, h.next_top, h.top_end);
@@ -129,6 +129,6 @@ new_can_leave c e h above =
 pub ordinary_leaves : (c : ConnectionView) (e : Established) → IsOrdered c.board → AllOf (CanLeave c.board) (sending.ordinary_segment c e)
 ordinary_leaves c e h = by_place (nat_lt c.board.next c.board.top) refl
   where
-    by_place : (b : Bool) → nat_lt c.board.next c.board.top ≡ b → AllOf (CanLeave c.board) (if b then next_retransmit_segment c e else next_new_segment c e)
+    by_place : (b : Bool) → nat_lt c.board.next c.board.top ≡ b → AllOf (CanLeave c.board) (if b then retransmit_segment_at_next_if_in_windows c e else next_new_segment c e)
     by_place true t = again_leaves c e h (lt _ _ t)
     by_place false t = new_can_leave c e h (ge _ _ t)

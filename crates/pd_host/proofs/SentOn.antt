@@ -11,7 +11,7 @@ use Rattle.pd_recover.specs.NextSeg.{segment_of}
 use Rattle.pd_seg.specs.declared.sack_spans.Span.{Span}
 use Rattle.pd_seg.specs.declared.segments.Sent.{Sent}
 use Rattle.pd_timer.specs.Rto.{initial}
-use Rattle.pd_host.specs.AckEffects.{OnTheWay, next_fill, sent_as, fill_noted_on, one_filled, sender_of, pipe_of, filled, put_out_data_segment, entered_on, entry, after_ack_action}
+use Rattle.pd_host.specs.AckEffects.{OnTheWay, next_fill, sent_as, fill_noted_on, one_filled, sender_of, pipe_of, filled, push_data_segment_to_outbox, entered_on, entry, after_ack_action}
 use Rattle.pd_host.specs.Connection.{ConnectionView}
 use Rattle.pd_host.specs.Packets.{data_of}
 use Rattle.pd_host.specs.OutboxLimit.{has_place}
@@ -205,7 +205,7 @@ filled_sends now filling r s h =
 -- The sending that an ACK leads to
 
 put_sends : (now : ℕ) (segment : Span) (before c : ConnectionView) (s : SenderState) → stills (Some c) ≡ stills s.endpoint.connection
-    → Leaves (IsSentOn now s) (put_out_data_segment now segment before c s)
+    → Leaves (IsSentOn now s) (push_data_segment_to_outbox now segment before c s)
 put_sends now segment before c s same =
     either (IsSentOn now s) (has_place s.endpoint.outbox) (Ok (with_segment now segment before c s)) (Err Limit)
     (one_sent now segment before c s same) tt
@@ -219,7 +219,7 @@ entry_sends now c s e =
     let segment : Span = run_at c.board.una c.board in
     let sent : ConnectionView = entered_on segment (timing_started now segment c) c.established in
     let moved : ConnectionView = entered_on segment c c.established in
-    either (IsSentOn now s) (nat_lt segment.start segment.end) (put_out_data_segment now segment c sent s) (Ok (with_begun_connection moved s))
+    either (IsSentOn now s) (nat_lt segment.start segment.end) (push_data_segment_to_outbox now segment c sent s) (Ok (with_begun_connection moved s))
     (put_sends now segment c sent s
     (ap (λ (d : ConnectionView). Some d) (entered_still segment (timing_started now segment c) c.established refl) ∙ sym (ap stills e)))
     (only_moved now moved s (ap (λ (d : ConnectionView). Some d) (entered_still segment c c.established refl) ∙ sym (ap stills e)))
@@ -233,6 +233,6 @@ led_to_sends now c s Entry e =
 led_to_sends now c s LimitedTransmit e = filled_sends now NewData s s (nothing_sent now s)
 led_to_sends now c s (NewSegment segment) e = put_sends now segment c (sent_on now segment c) s (sym (ap stills e))
 led_to_sends now c s (FastRetransmit segment) e =
-    then_leaves (IsSentOn now s) (IsSentOn now s) (ordinary now) (put_out_data_segment now segment c (timing_started now segment c) s)
+    then_leaves (IsSentOn now s) (IsSentOn now s) (ordinary now) (push_data_segment_to_outbox now segment c (timing_started now segment c) s)
     (put_sends now segment c (timing_started now segment c) s (sym (ap stills e))) (λ t h. ordinary_sends now s t h)
 led_to_sends now c s Nothing e = nothing_sent now s

@@ -14,12 +14,12 @@ use Rattle.pd_host.specs.Arrivals.{check_outcome, arrived_on, arrived, failed_ch
 use Rattle.pd_host.specs.Calls.{called}
 use Rattle.pd_host.specs.Connection.{ConnectionView}
 use Rattle.pd_host.specs.Expiries.{segment_again, connection_expired, expired, advanced}
-use Rattle.pd_host.specs.Handshake.{can_begin_connection, connection_begun, answered_syn, syn_settings, syn_octet, established_by, establishment_settings, syn_acked, scaled_window_in, with_window}
+use Rattle.pd_host.specs.Handshake.{is_supported_syn_for_listener, connection_begun, answered_syn, syn_settings, syn_octet, established_by, establishment_settings, syn_acked, scaled_window_in, with_window}
 use Rattle.pd_host.specs.Packets.{data_of, ack_of, refusal_of, syn_ack_of}
 use Rattle.pd_host.specs.Host.{beside, with_outbox}
 use Rattle.pd_host.specs.Sending.{places_left, with_begun_connection, with_segment}
 use Rattle.pd_host.specs.SendingLaws.{top_in, rtt_segment_in, end_with_flags, touches, AreApart, IsSentOnce, TimesNew, MeasuresWhatIsSentOnce}
-use Rattle.pd_host.specs.RttSegment.{overlaps, rtt_segment_after, is_measured, measured, with_sample, with_timer_updated}
+use Rattle.pd_host.specs.RttSegment.{overlaps, rtt_segment_after_sending, is_measured, measured, with_sample, with_timer_updated}
 use Rattle.pd_host.specs.declared.established.Established.{Established}
 use Rattle.pd_host.specs.declared.halts.Halt.TheVariants.{Limit, Unsupported}
 use Rattle.pd_host.specs.declared.connection.segment_check.SegmentCheck.{SegmentCheck}
@@ -225,7 +225,7 @@ still_timed false now segment c t x o h =
     (h, (subst (λ (y : RttSegment). touches y packet ≡ false) is apart, tt))
 
 one_origin : (now : ℕ) (segment : Span) (c : ConnectionView) (o : Option RttSegment) (x : RttSegment) → IsQueuedIfNew c segment → c.rtt_segment ≡ o
-    → rtt_segment_after now segment c.board.top o ≡ Some x
+    → rtt_segment_after_sending now segment c.board.top o ≡ Some x
     → ((c.rtt_segment ≡ Some x) × AreApart x (record { segment = data_of c segment; at = now } ∷ []))
     ⊎ IsSentOnce c.board.top x (record { segment = data_of c segment; at = now } ∷ [])
 one_origin now segment c None x queued e h = inr (newly_timed (nat_le c.board.top segment.start) now segment c x queued refl h)
@@ -396,7 +396,7 @@ on_connection : (o : Option ConnectionView) (segment : Segment) (now : ℕ) (s :
     → Leaves (TimesNew s) (arrived_on now segment s o)
 on_connection None segment now s e =
     let c : ConnectionView = connection_begun now s.settings segment in
-    either (TimesNew s) (can_begin_connection s.endpoint.listener segment) (answered_syn now c s) (Err Unsupported)
+    either (TimesNew s) (is_supported_syn_for_listener s.endpoint.listener segment) (answered_syn now c s) (Err Unsupported)
     (opened_so (nat_lt (length s.endpoint.outbox) 1024) now c s e refl) tt
 on_connection (Some c) segment now s e =
     passed_leaves (TimesNew s) now segment c s (failed_check_of c segment) (λ u d is k. fin_times_new now s u d is k)

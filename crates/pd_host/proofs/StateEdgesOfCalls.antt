@@ -6,8 +6,8 @@ use Rattle.pd_script.specs.declared.calls.Call.{Call}
 use Rattle.pd_seg.specs.declared.call_results.Answer.{Answer}
 use Rattle.pd_seg.specs.declared.call_results.Answer.TheVariants.{Number, Error}
 use Rattle.pd_seg.specs.declared.call_results.Errno.TheVariants.{Eagain, Epipe}
-use Rattle.pd_host.specs.Calls.{Descriptor, Listening, Connected, answered, with_listener, with_stored, socket_reply, bind_reply, listen_reply, accept_reply, handed_out, no_delay_reply, free_of, with_queued, write_settings, queued, written_on, write_reply, closed_stream, with_fin, closed_on, close_reply, operated, on_open, open_descriptor, requested, called, is_open, has_unaccepted_connection, is_unaccepted, stream_in, stream_of, with_stream, with_nagle}
-use Rattle.pd_host.specs.ConnStates.{synchronized_state, state_after_handshake, state_of, state_on, conn_state}
+use Rattle.pd_host.specs.Calls.{Descriptor, Listening, Connected, answered, with_listener, with_stored, socket_reply, bind_reply, listen_reply, accept_reply, handed_out, no_delay_reply, free_of, with_queued, write_settings, queued, written_on, write_reply, closed_stream, with_fin, closed_on, close_reply, operated, on_open, open_descriptor, requested, called, is_open, has_begun_unaccepted_connection, is_unaccepted, stream_in, stream_of, with_stream, with_nagle}
+use Rattle.pd_host.specs.ConnStates.{state_from_fins_and_all_acked, state_after_handshake, state_of, state_on, conn_state}
 use Rattle.pd_host.specs.Connection.{ConnectionView, peer_fin_in}
 use Rattle.pd_host.specs.Expiries.{connection_expired, expired, advanced}
 use Rattle.pd_host.specs.StateDiagram.{MovesByCall}
@@ -169,7 +169,7 @@ write_moves now s n c e h =
 
 -- our FIN is queued
 
-fin_waits : (p : PeerFin) (x : Bool) → (p ≡ AfterOurs → false ≡ true) → MovesByCall (synchronized_state p false x) (synchronized_state p true false)
+fin_waits : (p : PeerFin) (x : Bool) → (p ≡ AfterOurs → false ≡ true) → MovesByCall (state_from_fins_and_all_acked p false x) (state_from_fins_and_all_acked p true false)
 fin_waits Awaited x h = inr refl
 fin_waits BeforeOurs x h = inr refl
 fin_waits AfterOurs x h = let no : false ≡ true = h refl in absurd cc
@@ -183,17 +183,17 @@ closing_moves b now c e h is unclosed live =
     let x : Bool = c.board.una == c.board.end in
     let none : c.fin ≡ false = unfinished b now c h unclosed in
     let order : e.peer_fin ≡ AfterOurs → false ≡ true = λ q. sym none ∙ h.fin.1 (ap peer_fin_in is ∙ q) in
-    let from : state_of c ≡ synchronized_state e.peer_fin false x =
+    let from : state_of c ≡ state_from_fins_and_all_acked e.peer_fin false x =
     ap (λ (r : Bool). if r then state.Closed else state_after_handshake c c.established) live ∙ ap (state_after_handshake c) is
-    ∙ ap (λ (f : Bool). synchronized_state e.peer_fin f x) none in
+    ∙ ap (λ (f : Bool). state_from_fins_and_all_acked e.peer_fin f x) none in
     let low : c.board.una ≤ c.board.end = omega (arith, h.board.una_next, h.board.next_top, h.board.top_end) in
-    let to : state_of (with_stream stream_state.Closed (with_fin c)) ≡ synchronized_state e.peer_fin true false =
+    let to : state_of (with_stream stream_state.Closed (with_fin c)) ≡ state_from_fins_and_all_acked e.peer_fin true false =
     streamed stream_state.Closed (with_fin c)
     ∙ ap (λ (r : Bool). if r then state.Closed else state_after_handshake (with_fin c) c.established) live
     ∙ ap (state_after_handshake (with_fin c)) is
-    ∙ ap (λ (y : Bool). synchronized_state e.peer_fin true y) (beyond c.board.una c.board.end low) in
+    ∙ ap (λ (y : Bool). state_from_fins_and_all_acked e.peer_fin true y) (beyond c.board.una c.board.end low) in
     subst (λ (a : ConnState). MovesByCall a (state_of (with_stream stream_state.Closed (with_fin c)))) (sym from)
-    (subst (MovesByCall (synchronized_state e.peer_fin false x)) (sym to) (fin_waits e.peer_fin x order))
+    (subst (MovesByCall (state_from_fins_and_all_acked e.peer_fin false x)) (sym to) (fin_waits e.peer_fin x order))
 
 opened_some : (o : Option Established) → is_open (stream_in o) ≡ true → (e : Established) × (o ≡ Some e)
 opened_some None e = absurd cc
@@ -237,7 +237,7 @@ module _ (now : ℕ) (s : SenderState) (h : IsLawful now s) where
 
   close_row : (d : Descriptor) → IsOpenOn s d → Replies (Moves (conn_state s)) (close_reply now s d)
   close_row Listening unclosed =
-      either_reply (Moves (conn_state s)) (has_unaccepted_connection s.endpoint.connection) (Err Unsupported) (answered (with_listener Closed s) (Number 0)) tt
+      either_reply (Moves (conn_state s)) (has_begun_unaccepted_connection s.endpoint.connection) (Err Unsupported) (answered (with_listener Closed s) (Number 0)) tt
       (relistened s.endpoint.listener Closed s refl (unlistens s.endpoint.listener))
   close_row (Connected c) unclosed = close_moves now s c unclosed.0 (reached c unclosed.0) unclosed.1
 

@@ -6,12 +6,12 @@ use Rattle.pd_settings.specs.declared.settings.Settings.{Settings}
 use Rattle.pd_seg.specs.declared.segments.Segment.{Segment}
 use Rattle.pd_seg.specs.declared.segments.Sent.{Sent}
 use Rattle.pd_host.specs.AckEffects.{taking, ack_taken}
-use Rattle.pd_host.specs.Arrivals.{is_in_window, is_awaited, is_stray_fin, failed_check_of, check_outcome, goes_on, with_peer_fin, finished_by, passed_on, arrived_on, arrived}
+use Rattle.pd_host.specs.Arrivals.{is_in_window, is_awaited, has_in_window_fin_out_of_order, failed_check_of, check_outcome, goes_on, with_peer_fin, finished_by, passed_on, arrived_on, arrived}
 use Rattle.pd_host.specs.Calls.{stream_in}
 use Rattle.pd_host.specs.ConnStates.{state_after_handshake, state_of, state_on, conn_state, is_closed}
 use Rattle.pd_host.specs.Connection.{ConnectionView, peer_fin_in, rcv_nxt}
 use Rattle.pd_host.specs.StateDiagram.{MovesBySegment}
-use Rattle.pd_host.specs.Handshake.{is_listening, length_of, can_begin_connection, connection_begun, answered_syn, syn_settings, established_by, syn_acked}
+use Rattle.pd_host.specs.Handshake.{is_listening, length_of, is_supported_syn_for_listener, connection_begun, answered_syn, syn_settings, established_by, syn_acked}
 use Rattle.pd_host.specs.Invariants.{IsReached, IsLawful}
 use Rattle.pd_host.specs.Host.{beside, with_outbox}
 use Rattle.pd_host.specs.Sending.{with_begun_connection}
@@ -70,10 +70,10 @@ record Going (c : ConnectionView) (segment : Segment) : Type 0 where
 
 going : (c : ConnectionView) (segment : Segment) → goes_on (failed_check_of c segment) ≡ true → Going c segment
 going c segment h =
-    let k = goes (nat_lt 0 (length_of segment) || (segment.flags.syn || (is_stray_fin c segment || is_closed (state_of c)))) (is_in_window c segment)
+    let k = goes (nat_lt 0 (length_of segment) || (segment.flags.syn || (has_in_window_fin_out_of_order c segment || is_closed (state_of c)))) (is_in_window c segment)
     segment.flags.rst (segment.start == rcv_nxt c) segment.flags.ack (is_some c.established)
     (nat_lt c.board.una segment.ack && nat_le segment.ack c.board.top) (nat_lt c.board.top segment.ack) (nat_lt segment.ack c.board.una) h in
-    let l = last_two (nat_lt 0 (length_of segment)) segment.flags.syn (is_stray_fin c segment) (is_closed (state_of c)) k.0 in
+    let l = last_two (nat_lt 0 (length_of segment)) segment.flags.syn (has_in_window_fin_out_of_order c segment) (is_closed (state_of c)) k.0 in
     record {
       live = open_live c l.1;
       first = λ fin.
@@ -231,7 +231,7 @@ module _ (segment : Segment) (now : ℕ) (c : ConnectionView) where
 
 -- The first segment
 
-opening_listens : (l : ListenState) (segment : Segment) → can_begin_connection l segment ≡ true → is_listening l ≡ true
+opening_listens : (l : ListenState) (segment : Segment) → is_supported_syn_for_listener l segment ≡ true → is_listening l ≡ true
 opening_listens l segment h = first_of_two (is_listening l) _ h
 
 listens_so : (l : ListenState) → is_listening l ≡ true → state_on l None ≡ Listen
@@ -251,7 +251,7 @@ opens false segment now s a e = tt
 on_connection : (o : Option ConnectionView) (segment : Segment) (now : ℕ) (s : SenderState) → IsLawful now s → s.endpoint.connection ≡ o
     → Leaves (λ t. MovesBySegment segment (state_on s.endpoint.listener o) (conn_state t)) (arrived_on now segment s o)
 on_connection None segment now s h e =
-    opens (can_begin_connection s.endpoint.listener segment) segment now s (state_on s.endpoint.listener None)
+    opens (is_supported_syn_for_listener s.endpoint.listener segment) segment now s (state_on s.endpoint.listener None)
     (λ is. listens_so s.endpoint.listener (opening_listens s.endpoint.listener segment is))
 on_connection (Some c) segment now s h e =
     by_ruling segment now c s.settings (at_some (IsReached s.settings now) s.endpoint.connection c e h.connection) (failed_check_of c segment) s e refl

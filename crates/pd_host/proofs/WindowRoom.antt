@@ -1,11 +1,11 @@
 -- Step C and limited transmit put out no more octets than the congestion window has room for.
 use Rattle.std.proofs.Common.{◌≡◌, ℕ, ◌+◌, ◌-◌, ◌≤◌, ◌&&◌, ◌^◌, min, max, nat_lt, nat_le, if◌then◌else◌, List, [], ◌∷◌, ◌++◌, Option, None, Some, refl, sym, subst, ap, ◌∙◌, append_assoc, append-nil, arith}
 use Rattle.std.specs.Prelude.{Ok, unwrap_or, option_map}
-use Rattle.pd_board.specs.Retransmit.{run_at, most_from, next_lost, next_hole, rescue, segment_to}
+use Rattle.pd_board.specs.Retransmit.{run_at, most_from, next_lost, find_unsacked_octet_by_nextseg_rule_3, rescue, segment_to}
 use Rattle.pd_board.specs.Loss.{is_unsacked}
 use Rattle.pd_board.specs.Octets.{contains, least_where, greatest_where, after}
 use Rattle.pd_board.specs.Board.{BoardView}
-use Rattle.pd_recover.specs.NextSeg.{segment_of, has_room_for_segment, lost_run, new_segment_on_board, hole_run, rescue_run, next_send as next_seg, step_c_segment, limited_transmit_segment}
+use Rattle.pd_recover.specs.NextSeg.{segment_of, has_room_for_segment, lost_run, new_segment_on_board_within_rwnd, hole_run, rescue_run, next_send as next_seg, step_c_segment, limited_transmit_segment}
 use Rattle.pd_recover.specs.Cong.{CongView}
 use Rattle.pd_recover.specs.declared.next_segment.NextSegment.{NextSegment}
 use Rattle.pd_recover.specs.declared.next_segment.NextSegment.TheVariants.{Lost, New, Hole, Rescue}
@@ -47,7 +47,7 @@ run_short s x = by (least_where (contains s.sacked) x (most_from x s)) refl
 new_short : (top smss left : ℕ) → top + min smss left - top ≤ smss
 new_short top smss left = omega arith
 
-data_short : (rwnd : ℕ) (s : BoardView) → AllOf (IsShort s.smss) (new_segment_on_board rwnd s)
+data_short : (rwnd : ℕ) (s : BoardView) → AllOf (IsShort s.smss) (new_segment_on_board_within_rwnd rwnd s)
 data_short rwnd s =
     let to : ℕ = s.top + min s.smss (s.end - s.top) in
     let segment : Span = record { start = s.top; end = to } in
@@ -66,10 +66,10 @@ next_short : (rwnd : ℕ) (s : BoardView) (w : CongView) → AllOf (λ sent. IsS
 next_short rwnd s w =
     let P : NextSegment → Type 0 = λ sent. IsShort s.smss (segment_of sent) in
     either_of P (lost_run s w) _ (map_of P (λ x. Lost (run_at x s)) (next_lost w.high_rxt s) (λ x e. run_short s x))
-    (either_of P (option_map (λ segment. New segment) (new_segment_on_board rwnd s)) _
-    (map_of P (λ segment. New segment) (new_segment_on_board rwnd s) (data_short rwnd s))
+    (either_of P (option_map (λ segment. New segment) (new_segment_on_board_within_rwnd rwnd s)) _
+    (map_of P (λ segment. New segment) (new_segment_on_board_within_rwnd rwnd s) (data_short rwnd s))
     (either_of P (hole_run s w) (rescue_run s w)
-    (map_of P (λ x. Hole (run_at x s)) (next_hole w.high_rxt s) (λ x e. run_short s x))
+    (map_of P (λ x. Hole (run_at x s)) (find_unsacked_octet_by_nextseg_rule_3 w.high_rxt s) (λ x e. run_short s x))
     (allowed_of P _ _ (λ _. map_of P (λ segment. Rescue segment) (rescue s) (rescue_short s)))))
 
 -- cwnd of a connection
@@ -90,7 +90,7 @@ c_room rwnd pipe s w =
 
 limited_room : (rwnd pipe : ℕ) (s : BoardView) (w : CongView) → AllOf (HasRoom w.cwnd pipe) (limited_transmit_segment rwnd pipe s w)
 limited_room rwnd pipe s w =
-    allowed_of (HasRoom w.cwnd pipe) (has_room_for_segment pipe s w) (new_segment_on_board rwnd s)
+    allowed_of (HasRoom w.cwnd pipe) (has_room_for_segment pipe s w) (new_segment_on_board_within_rwnd rwnd s)
     (λ t segment e. fits (octets_of segment) s.smss (w.cwnd - pipe) (data_short rwnd s segment e) (is_within s.smss (w.cwnd - pipe) t))
 
 filling_room : (filling : WindowFill) (n : ℕ) (c : ConnectionView) (e : Established)

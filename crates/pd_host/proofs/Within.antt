@@ -8,7 +8,7 @@ use Rattle.pd_recover.proofs.SlowStart.{restarts_when_idle}
 use Rattle.pd_recover.specs.Cong.{initial_window_by_rule}
 use Rattle.pd_host.specs.Connection.{ConnectionView}
 use Rattle.pd_host.specs.Packets.{data_of}
-use Rattle.pd_host.specs.Sending.{value_on, places_left, window_edge, is_idle, restarted_in, restarted_if_idle, with_next_past_sacked, sent_on, found, sent_ordinarily, ready, ordinary}
+use Rattle.pd_host.specs.Sending.{value_on, places_left, una_plus_smaller_window, is_idle, restarted_in, restarted_if_idle, with_next_past_sacked, sent_on, found, sent_ordinarily, ready, ordinary}
 use Rattle.pd_host.specs.SendingLaws.{end_with_fin, edge_of}
 use Rattle.pd_host.specs.declared.established.Established.{Established}
 use Rattle.pd_host.specs.declared.endpoint.SenderState.{SenderState}
@@ -32,7 +32,7 @@ one_more edge [] p le h = (le, tt)
 one_more edge (q ∷ packets) p le h = (h.0, one_more edge packets p le h.1)
 
 abbrev edge_on : ConnectionView → Option Established → ℕ
-edge_on c o = value_on 0 window_edge c o
+edge_on c o = value_on 0 una_plus_smaller_window c o
 
 same_edge : (c d : ConnectionView) (o : Option Established) → d.board.una ≡ c.board.una → edge_on d o ≡ edge_on c o
 same_edge c d None same = refl

@@ -229,8 +229,8 @@ abbrev pub filled : ℕ → WindowFill → SenderState → Result SenderState Ha
 filled now filling s = sender_of (filled_from now filling (s, pipe_of s.endpoint.connection))
 
 -- one segment is put out at a moment, where the outbox has a place for it
-abbrev pub put_out_data_segment : ℕ → Span → ConnectionView → ConnectionView → SenderState → Result SenderState Halt
-put_out_data_segment now segment before after s =
+abbrev pub push_data_segment_to_outbox : ℕ → Span → ConnectionView → ConnectionView → SenderState → Result SenderState Halt
+push_data_segment_to_outbox now segment before after s =
     if has_place s.endpoint.outbox then Ok (with_segment now segment before after s) else Err Limit
 
 -- an entry into loss recovery has sent this segment again: HighRxt and RescueRxt are its end (RFC 6675, section 5, step 4.3),
@@ -245,7 +245,7 @@ abbrev pub entry : ℕ → ConnectionView → SenderState → Result SenderState
 entry now c s =
     let segment = run_at c.board.una c.board in
     if nat_lt segment.start segment.end
-    then put_out_data_segment now segment c (entered_on segment (timing_started now segment c) c.established) s
+    then push_data_segment_to_outbox now segment c (entered_on segment (timing_started now segment c) c.established) s
     else Ok (with_begun_connection (entered_on segment c c.established) s)
 
 -- the sending that an ACK leads to, on the connection that it left: an entry is followed by step C (RFC 6675, section 5, step
@@ -255,8 +255,8 @@ after_ack_action now c s Ordinary = ordinary now s
 after_ack_action now c s StepC = filled now NextSeg s
 after_ack_action now c s Entry = then_on (filled now NextSeg) (entry now c s)
 after_ack_action now c s LimitedTransmit = filled now NewData s
-after_ack_action now c s (NewSegment segment) = put_out_data_segment now segment c (sent_on now segment c) s
-after_ack_action now c s (FastRetransmit segment) = then_on (ordinary now) (put_out_data_segment now segment c (timing_started now segment c) s)
+after_ack_action now c s (NewSegment segment) = push_data_segment_to_outbox now segment c (sent_on now segment c) s
+after_ack_action now c s (FastRetransmit segment) = then_on (ordinary now) (push_data_segment_to_outbox now segment c (timing_started now segment c) s)
 after_ack_action now c s Nothing = Ok s
 
 -- a segment that passed all checks is taken, and what follows is sent; its FIN comes after that

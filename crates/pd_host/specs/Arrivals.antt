@@ -32,44 +32,44 @@ abbrev pub is_next_fin : ConnectionView → Segment → Bool
 is_next_fin c segment = is_awaited (peer_fin_in c.established) && segment.start == rcv_nxt c
 
 -- another FIN in the receive window
-abbrev pub is_stray_fin : ConnectionView → Segment → Bool
-is_stray_fin c segment = segment.flags.fin && (is_in_window c segment && not (is_next_fin c segment))
+abbrev pub has_in_window_fin_out_of_order : ConnectionView → Segment → Bool
+has_in_window_fin_out_of_order c segment = segment.flags.fin && (is_in_window c segment && not (is_next_fin c segment))
 
 -- the contents: data, a SYN, a FIN in the receive window that isn't the next octet, and whatever comes to a closed
 -- connection isn't run (own profile)
-abbrev pub check_contents : ConnectionView → Segment → Option SegmentCheck
-check_contents c segment =
-    if nat_lt 0 (length_of segment) || (segment.flags.syn || (is_stray_fin c segment || is_closed (state_of c)))
+abbrev pub failed_check_if_contents_unsupported : ConnectionView → Segment → Option SegmentCheck
+failed_check_if_contents_unsupported c segment =
+    if nat_lt 0 (length_of segment) || (segment.flags.syn || (has_in_window_fin_out_of_order c segment || is_closed (state_of c)))
     then Some NotRun
     else None
 
 -- the sequence number: outside the receive window an RST is dropped; any other segment is answered by an ACK and dropped
 -- (RFC 9293, section 3.10.7.4, first check)
-abbrev pub check_window : ConnectionView → Segment → Option SegmentCheck
-check_window c segment =
+abbrev pub failed_check_if_outside_receive_window : ConnectionView → Segment → Option SegmentCheck
+failed_check_if_outside_receive_window c segment =
     if is_in_window c segment then None else Some (if segment.flags.rst then StrayRst else OutsideWindow)
 
 -- the RST flag: an RST at RCV.NXT resets the connection; elsewhere in the window it is answered by an ACK and dropped
 -- (RFC 9293, section 3.10.7.4, second check; RFC 5961, section 3.2)
-abbrev pub check_rst : ConnectionView → Segment → Option SegmentCheck
-check_rst c segment =
+abbrev pub exact_or_challenged_check_if_rst : ConnectionView → Segment → Option SegmentCheck
+exact_or_challenged_check_if_rst c segment =
     if segment.flags.rst then Some (if segment.start == rcv_nxt c then ExactRst else ChallengedRst) else None
 
 -- the ACK flag: a segment without it is dropped (RFC 9293, section 3.10.7.4, fifth check)
-abbrev pub check_ack_flag : Segment → Option SegmentCheck
-check_ack_flag segment = if segment.flags.ack then None else Some WithoutAck
+abbrev pub failed_check_if_ack_flag_missing : Segment → Option SegmentCheck
+failed_check_if_ack_flag_missing segment = if segment.flags.ack then None else Some WithoutAck
 
 -- the handshake: an ACK of our SYN, above SND.UNA and not of more than was sent, establishes the connection, and its FIN is
 -- looked at; any other is refused by an RST (RFC 9293, section 3.10.7.4, fifth check, SYN-RECEIVED)
-abbrev pub check_handshake : ConnectionView → Segment → Option SegmentCheck
-check_handshake c segment =
+abbrev pub first_or_refused_ack_check_in_handshake : ConnectionView → Segment → Option SegmentCheck
+first_or_refused_ack_check_in_handshake c segment =
     if is_some c.established then None
     else Some (if nat_lt c.board.una segment.ack && nat_le segment.ack c.board.top then FirstAck else RefusedAck)
 
 -- the ack number: an ACK of what wasn't sent is answered by an ACK and dropped; of one below SND.UNA the FIN alone is looked
 -- at (RFC 9293, section 3.10.7.4, fifth check, ESTABLISHED)
-abbrev pub check_ack : ConnectionView → Segment → Option SegmentCheck
-check_ack c segment =
+abbrev pub failed_check_if_ack_early_or_old : ConnectionView → Segment → Option SegmentCheck
+failed_check_if_ack_early_or_old c segment =
     if nat_lt c.board.top segment.ack then Some EarlyAck
     else if nat_lt segment.ack c.board.una then Some OldAck
     else None
@@ -83,8 +83,8 @@ first_failed_check (None ∷ checks) = first_failed_check checks
 -- the ruling on a later segment; one that passes all checks has none
 abbrev pub failed_check_of : ConnectionView → Segment → Option SegmentCheck
 failed_check_of c segment = first_failed_check (
-    check_contents c segment ∷ check_window c segment ∷ check_rst c segment
-    ∷ check_ack_flag segment ∷ check_handshake c segment ∷ check_ack c segment ∷ [])
+    failed_check_if_contents_unsupported c segment ∷ failed_check_if_outside_receive_window c segment ∷ exact_or_challenged_check_if_rst c segment
+    ∷ failed_check_if_ack_flag_missing segment ∷ first_or_refused_ack_check_in_handshake c segment ∷ failed_check_if_ack_early_or_old c segment ∷ [])
 
 -- the same on the connection of a sender, if one was begun
 abbrev pub failed_check_on : Segment → Option ConnectionView → Option SegmentCheck

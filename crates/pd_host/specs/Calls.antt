@@ -66,9 +66,9 @@ abbrev pub stream_of : ConnectionView → StreamState
 stream_of c = stream_in c.established
 
 -- whether a connection was begun that isn't accepted
-abbrev pub has_unaccepted_connection : Option ConnectionView → Bool
-has_unaccepted_connection None = false
-has_unaccepted_connection (Some c) = is_unaccepted (stream_of c)
+abbrev pub has_begun_unaccepted_connection : Option ConnectionView → Bool
+has_begun_unaccepted_connection None = false
+has_begun_unaccepted_connection (Some c) = is_unaccepted (stream_of c)
 
 -- a descriptor that is open: 3, which listens or may come to listen, and 4, the connection that `accept` has handed out
 pub data Descriptor : Type 0 where
@@ -176,16 +176,16 @@ with_fin c = record (with_queued 1 c) { fin = true }
 abbrev pub closed_stream : ConnectionView → ConnectionView
 closed_stream c = with_stream stream_state.Closed (if c.is_reset then c else with_fin c)
 
--- `close_stream` on an open 4: 0, and the FIN is sent as the windows let it
+-- `close` on an open 4: 0, and the FIN is sent as the windows let it
 abbrev pub closed_on : ℕ → ConnectionView → SenderState → Reply
 closed_on now c s =
     let closed = with_stored (Some (closed_stream c)) s in
     with_answer (Number 0) (if c.is_reset then Ok closed else ordinary_outside_recovery now c closed)
 
--- `close_stream` at a moment: 0 on 3, but not while a connection was begun and isn't accepted
+-- `close` at a moment: 0 on 3, but not while a connection was begun and isn't accepted
 abbrev pub close_reply : ℕ → SenderState → Descriptor → Reply
 close_reply now s Listening =
-    if has_unaccepted_connection s.endpoint.connection then Err Unsupported else answered (with_listener Closed s) (Number 0)
+    if has_begun_unaccepted_connection s.endpoint.connection then Err Unsupported else answered (with_listener Closed s) (Number 0)
 close_reply now s (Connected c) = closed_on now c s
 
 -- the row of an operation on an open descriptor

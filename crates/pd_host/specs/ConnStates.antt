@@ -12,20 +12,20 @@ use Rattle.pd_host.specs.declared.endpoint.SenderState.{SenderState}
 
 -- from the end of the handshake on: by the peer's FIN, by whether ours is queued, and by whether all that is queued is
 -- acknowledged, our FIN too
-abbrev pub synchronized_state : PeerFin → Bool → Bool → ConnState
-synchronized_state Awaited false acked = Established
-synchronized_state Awaited true false = FinWait1
-synchronized_state Awaited true true = FinWait2
-synchronized_state _ false acked = CloseWait
-synchronized_state BeforeOurs true false = LastAck
-synchronized_state BeforeOurs true true = Closed
-synchronized_state AfterOurs true false = Closing
-synchronized_state AfterOurs true true = TimeWait
+abbrev pub state_from_fins_and_all_acked : PeerFin → Bool → Bool → ConnState
+state_from_fins_and_all_acked Awaited false acked = Established
+state_from_fins_and_all_acked Awaited true false = FinWait1
+state_from_fins_and_all_acked Awaited true true = FinWait2
+state_from_fins_and_all_acked _ false acked = CloseWait
+state_from_fins_and_all_acked BeforeOurs true false = LastAck
+state_from_fins_and_all_acked BeforeOurs true true = Closed
+state_from_fins_and_all_acked AfterOurs true false = Closing
+state_from_fins_and_all_acked AfterOurs true true = TimeWait
 
 -- by whether the handshake has come to its end
 abbrev pub state_after_handshake : ConnectionView → Option conn.Established → ConnState
 state_after_handshake c None = SynReceived
-state_after_handshake c (Some e) = synchronized_state e.peer_fin c.fin (c.board.una == c.board.end)
+state_after_handshake c (Some e) = state_from_fins_and_all_acked e.peer_fin c.fin (c.board.una == c.board.end)
 
 -- the state of a connection that a SYN has begun; after an RST it is CLOSED, in the handshake too (own profile)
 abbrev pub state_of : ConnectionView → ConnState

@@ -16,7 +16,7 @@ use Rattle.pd_host.specs.declared.syscall.Syscall.TheVariants.{On}
 use Rattle.pd_host.specs.declared.endpoint.SenderState.{SenderState}
 
 -- the most octets that an operation queues: those that a `write` names, at most as many as the setting `sndbuf` lets wait,
--- and the FIN of a `close_stream`
+-- and the FIN of a `close`
 abbrev pub asked_of : ℕ → SocketOperation → ℕ
 asked_of sndbuf (Write n) = min n sndbuf
 asked_of sndbuf Close = 1

@@ -83,8 +83,8 @@ is_listening _ = false
 
 -- the first segment begins the connection where 3 listens and it is exactly a SYN at 0 without data (RFC 9293, section
 -- 3.10.7.2); nothing else is run (own profile)
-abbrev pub can_begin_connection : ListenState → Segment → Bool
-can_begin_connection listener segment =
+abbrev pub is_supported_syn_for_listener : ListenState → Segment → Bool
+is_supported_syn_for_listener listener segment =
     is_listening listener
     && (is_syn_alone segment.flags && (segment.start == 0 && (length_of segment == 0 && is_peer_mss_supported (offered_mss segment.options))))
 
@@ -97,8 +97,8 @@ abbrev pub is_sack_agreed : Settings → SynOptions → Bool
 is_sack_agreed settings syn_options = settings.sack && syn_options.sack
 
 -- scaling is agreed where the peer offers it; its count above 14 is taken as 14 (RFC 7323, section 2.3)
-abbrev pub scaling_of : Settings → SynOptions → Option Scaling
-scaling_of settings syn_options = option_map (λ count. record { own = settings.wscale; peer = min count 14 }) syn_options.count
+abbrev pub agreed_window_scaling_if_offered : Settings → SynOptions → Option Scaling
+agreed_window_scaling_if_offered settings syn_options = option_map (λ count. record { own = settings.wscale; peer = min count 14 }) syn_options.count
 
 -- the octet of our SYN
 abbrev pub syn_octet : Span
@@ -110,7 +110,7 @@ abbrev pub connection_begun : ℕ → Settings → Segment → ConnectionView
 connection_begun now settings syn = record {
   own_mss = settings.mss;
   sack = is_sack_agreed settings (syn_options_of syn.options);
-  scaling = scaling_of settings (syn_options_of syn.options);
+  scaling = agreed_window_scaling_if_offered settings (syn_options_of syn.options);
   rcv_wnd = settings.rcv_wnd;
   board = opened (smss_of settings (syn_options_of syn.options));
   fin = false;
@@ -135,7 +135,7 @@ answered_syn now c s =
 -- the first segment begins the connection, or isn't run
 abbrev pub opened_by : ℕ → Segment → SenderState → Result SenderState Halt
 opened_by now segment s =
-    if can_begin_connection s.endpoint.listener segment
+    if is_supported_syn_for_listener s.endpoint.listener segment
     then answered_syn now (connection_begun now s.settings segment) s
     else Err Unsupported
 

@@ -7,7 +7,7 @@ use Rattle.pd_board.specs.Loss.{dup_thresh, sacked_above, runs_above, is_lost}
 use Rattle.pd_board.specs.Runs.{AreRuns}
 use Rattle.pd_timer.specs.Rto.{timeout_in}
 use Rattle.pd_timer.specs.declared.estimate.Timeout.{Timeout}
-use Rattle.pd_recover.specs.Acks.{acked, is_duplicate}
+use Rattle.pd_recover.specs.Acks.{acked, is_rfc5681_duplicate}
 use Rattle.pd_recover.specs.Cong.{CongView}
 use Rattle.pd_recover.specs.declared.ack.Ack.{Ack}
 use Rattle.pd_recover.specs.declared.ack.SackNews.{SackNews}
@@ -38,8 +38,8 @@ loss_evidence_of c w = record {
 
 -- a duplicate is looked at where octets are outstanding and no recovery goes on, unless an RST has ended the connection; below
 -- RecoveryPoint none begins recovery (RFC 6675, sections 5 and 5.1)
-abbrev pub established_dup_ack_effect : ConnectionView → Established → Option DupAckEffect
-established_dup_ack_effect c e =
+abbrev pub established_next_dup_ack_effect : ConnectionView → Established → Option DupAckEffect
+established_next_dup_ack_effect c e =
     if c.is_reset || (e.congestion.recovering || c.board.una == c.board.top) then None
     else (if nat_lt c.board.una e.congestion.recovery_point then Some (Below e.congestion.recovery_point)
     else Some (Counted (loss_evidence_of c e.congestion)))
@@ -49,7 +49,7 @@ dup_ack_status_of c = by c.established
   where
     by : Option Established → Option DupAckEffect
     by None = None
-    by (Some e) = established_dup_ack_effect c e
+    by (Some e) = established_next_dup_ack_effect c e
 
 -- the effect of a duplicate at the sender
 abbrev pub dup_ack_status_in : SenderState → Option DupAckEffect
@@ -97,7 +97,7 @@ pub record LossEvidenceIsNeeded : Type 0 where
       → (acked ack w).0.recovering ≡ (nat_le (loss_evidence_of c w).needed ((loss_evidence_of c w).dup_acks + 1) || sack_news.lost)
   pub without_sack :
       (c : ConnectionView) (w : CongView) (ack : Ack) → Repeats ack w → w.recovery_point ≤ ack.una
-      → ack.sack ≡ None → is_duplicate ack ≡ true → (loss_evidence_of c w).dup_acks < (loss_evidence_of c w).needed
+      → ack.sack ≡ None → is_rfc5681_duplicate ack ≡ true → (loss_evidence_of c w).dup_acks < (loss_evidence_of c w).needed
       → (acked ack w).0.recovering ≡ nat_le (loss_evidence_of c w).needed ((loss_evidence_of c w).dup_acks + 1)
   pub sacked :
       (s : BoardView)

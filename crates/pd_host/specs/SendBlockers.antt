@@ -4,7 +4,7 @@ use Rattle.pd_board.specs.Retransmit.{run_at}
 use Rattle.pd_board.specs.Loss.{pipe}
 use Rattle.pd_recover.specs.NextSeg as recovery
 use Rattle.pd_host.specs.Connection.{ConnectionView}
-use Rattle.pd_host.specs.Sending.{can_send_full_segment, can_send_all_queued, can_send_half_max_window, can_new_segment_leave, ordinary_segment, with_next_past_sacked}
+use Rattle.pd_host.specs.Sending.{can_send_full_segment, is_unsent_within_usable_window, can_send_half_max_window, may_leave_by_sws_and_nagle, ordinary_segment, with_next_past_sacked}
 use Rattle.pd_host.specs.declared.established.Established.{Established}
 use Rattle.pd_host.specs.declared.connection.introspection.SendBlocker.{SendBlocker}
 use Rattle.pd_host.specs.declared.connection.introspection.SendBlocker.TheVariants.{Reset, NotEstablished, Acknowledged, PipeFull, NothingNext, Recovering, AllSent, PeerWindow, CongestionWindow, PartOfSegment, Nagle, Open}
@@ -17,13 +17,13 @@ last_octet_needed_in_windows c = if nat_lt c.board.next c.board.top then (run_at
 
 -- a segment that could leave is worth sending, Nagle's algorithm apart (RFC 9293, section 3.8.6.2.1)
 abbrev pub is_worth_sending : ConnectionView → Established → Bool
-is_worth_sending c e = can_send_full_segment c e || (can_send_all_queued c e || can_send_half_max_window c e)
+is_worth_sending c e = can_send_full_segment c e || (is_unsent_within_usable_window c e || can_send_half_max_window c e)
 
 -- new octets that lie within both windows
 abbrev pub new_segment_send_blocker : ConnectionView → Established → SendBlocker
 new_segment_send_blocker c e =
     if not (is_worth_sending c e) then PartOfSegment
-    else (if can_new_segment_leave c e then Open else Nagle)
+    else (if may_leave_by_sws_and_nagle c e then Open else Nagle)
 
 -- outside recovery, and in recovery without SACK
 abbrev pub ordinary_send_blocker : ConnectionView → Established → SendBlocker

@@ -55,36 +55,36 @@ repeated find act (suc n) s = on_found (repeated find act n) act s (find s)
 -- Which segment is next
 
 -- below this number the congestion window and the peer's window let octets leave (RFC 5681, section 3.1)
-abbrev pub window_edge : ConnectionView → Established → ℕ
-window_edge c e = c.board.una + min e.congestion.cwnd e.rwnd
+abbrev pub una_plus_smaller_window : ConnectionView → Established → ℕ
+una_plus_smaller_window c e = c.board.una + min e.congestion.cwnd e.rwnd
 
 -- U: how many octets from the sending place on they let leave (RFC 9293, section 3.8.6.2.1)
 abbrev pub usable_window : ConnectionView → Established → ℕ
-usable_window c e = window_edge c e - c.board.next
+usable_window c e = una_plus_smaller_window c e - c.board.next
 
 -- D: how many octets are queued from there on (RFC 9293, section 3.8.6.2.1)
 abbrev pub unsent_octets : ConnectionView → ℕ
 unsent_octets c = c.board.end - c.board.next
 
 -- how many octets can leave: min(D, U) (RFC 9293, section 3.8.6.2.1)
-abbrev pub sendable_octets : ConnectionView → Established → ℕ
-sendable_octets c e = min (unsent_octets c) (usable_window c e)
+abbrev pub unsent_octets_in_usable_window : ConnectionView → Established → ℕ
+unsent_octets_in_usable_window c e = min (unsent_octets c) (usable_window c e)
 
 -- the segment of new octets that could leave, SMSS octets at most
 abbrev pub unsent_segment : ConnectionView → Established → Span
-unsent_segment c e = record { start = c.board.next; end = c.board.next + min (sendable_octets c e) c.board.smss }
+unsent_segment c e = record { start = c.board.next; end = c.board.next + min (unsent_octets_in_usable_window c e) c.board.smss }
 
 -- a full segment can leave (RFC 9293, section 3.8.6.2.1, rule 1)
 abbrev pub can_send_full_segment : ConnectionView → Established → Bool
-can_send_full_segment c e = nat_le c.board.smss (sendable_octets c e)
+can_send_full_segment c e = nat_le c.board.smss (unsent_octets_in_usable_window c e)
 
 -- all that is queued can leave (RFC 9293, section 3.8.6.2.1, rule 2: D <= U; each write counts as pushed)
-abbrev pub can_send_all_queued : ConnectionView → Established → Bool
-can_send_all_queued c e = nat_le (unsent_octets c) (usable_window c e)
+abbrev pub is_unsent_within_usable_window : ConnectionView → Established → Bool
+is_unsent_within_usable_window c e = nat_le (unsent_octets c) (usable_window c e)
 
 -- at least half of the largest window seen can leave (RFC 9293, section 3.8.6.2.1, rule 3)
 abbrev pub can_send_half_max_window : ConnectionView → Established → Bool
-can_send_half_max_window c e = nat_le c.max_window (2 * sendable_octets c e)
+can_send_half_max_window c e = nat_le c.max_window (2 * unsent_octets_in_usable_window c e)
 
 -- Nagle's algorithm holds a segment that isn't full while octets are outstanding (RFC 9293, section 3.7.4), but not our FIN
 -- (own profile)
@@ -92,22 +92,22 @@ abbrev pub is_nagle_delayed : ConnectionView → Established → Bool
 is_nagle_delayed c e = e.nagle && (nat_lt c.board.una c.board.top && not (covers_fin c (unsent_segment c e)))
 
 -- a segment of new octets leaves
-abbrev pub can_new_segment_leave : ConnectionView → Established → Bool
-can_new_segment_leave c e = can_send_full_segment c e || ((can_send_all_queued c e || can_send_half_max_window c e) && not (is_nagle_delayed c e))
+abbrev pub may_leave_by_sws_and_nagle : ConnectionView → Established → Bool
+may_leave_by_sws_and_nagle c e = can_send_full_segment c e || ((is_unsent_within_usable_window c e || can_send_half_max_window c e) && not (is_nagle_delayed c e))
 
 -- new octets: the next segment, where one leaves
 abbrev pub next_new_segment : ConnectionView → Established → Option Span
-next_new_segment c e = if nat_lt 0 (sendable_octets c e) && can_new_segment_leave c e then Some (unsent_segment c e) else None
+next_new_segment c e = if nat_lt 0 (unsent_octets_in_usable_window c e) && may_leave_by_sws_and_nagle c e then Some (unsent_segment c e) else None
 
 -- octets that were sent before: the next segment, where the windows let all of it leave
-abbrev pub next_retransmit_segment : ConnectionView → Established → Option Span
-next_retransmit_segment c e =
+abbrev pub retransmit_segment_at_next_if_in_windows : ConnectionView → Established → Option Span
+retransmit_segment_at_next_if_in_windows c e =
     let segment = run_at c.board.next c.board in
-    if nat_le segment.end (window_edge c e) then Some segment else None
+    if nat_le segment.end (una_plus_smaller_window c e) then Some segment else None
 
 -- the segment that ordinary sending sends next, on a board whose sending place isn't SACKed
 abbrev pub ordinary_segment : ConnectionView → Established → Option Span
-ordinary_segment c e = if nat_lt c.board.next c.board.top then next_retransmit_segment c e else next_new_segment c e
+ordinary_segment c e = if nat_lt c.board.next c.board.top then retransmit_segment_at_next_if_in_windows c e else next_new_segment c e
 
 -- How a segment is sent
 

@@ -25,7 +25,7 @@ use Rattle.pd_host.specs.Connection.{ConnectionView, data_end}
 use Rattle.pd_host.specs.Expiries.{deadline_of, due_by, connection_expired, expired_by, expired, advanced}
 use Rattle.pd_host.specs.Packets.{data_of}
 use Rattle.pd_host.specs.Syscalls.{syscall_of}
-use Rattle.pd_host.specs.Sending.{value_in, with_begun_connection, window_edge, ordinary_segment, found, sent_ordinarily, is_idle, ordinary, is_recovering}
+use Rattle.pd_host.specs.Sending.{value_in, with_begun_connection, una_plus_smaller_window, ordinary_segment, found, sent_ordinarily, is_idle, ordinary, is_recovering}
 use Rattle.pd_host.specs.RttSegment.{overlaps, timing_started}
 use Rattle.pd_host.specs.declared.established.Established.{Established}
 use Rattle.pd_host.specs.declared.connection.ack_effects.WindowFill.{WindowFill}
@@ -91,7 +91,7 @@ pub record StaysInWindow : Type 0 where
 
 -- below this number both windows let octets leave, 0 where there are none yet
 abbrev pub edge_of : Option ConnectionView → ℕ
-edge_of connection = value_in 0 window_edge connection
+edge_of connection = value_in 0 una_plus_smaller_window connection
 
 -- ordinary sending chooses nothing that ends beyond the congestion window, and so puts nothing out that does; after an idle
 -- time none that ends beyond the restart window, where the setting was on (RFC 5681, section 4.1); step C and limited
@@ -287,7 +287,7 @@ pub record MeasuresWhatIsSentOnce : Type 0 where
 
 -- The FIN (RFC 9293, section 3.10.4)
 
--- it is on a segment that covers the last octet queued, and no octet of data follows it; only `close_stream` queues it, and
+-- it is on a segment that covers the last octet queued, and no octet of data follows it; only `close` queues it, and
 -- nothing is queued then any more, neither by a call nor by an arrival or an expiry
 pub record EndsWithFin : Type 0 where
   pub covered :

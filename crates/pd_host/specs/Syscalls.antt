@@ -13,10 +13,10 @@ use Rattle.pd_host.specs.declared.syscall.Syscall.{Syscall}
 use Rattle.pd_host.specs.declared.syscall.Syscall.TheVariants.{Socket, On}
 
 -- `IPPROTO_TCP` or 0
-abbrev pub is_tcp : Argument → Bool
-is_tcp (Word IpprotoTcp) = true
-is_tcp (Int n) = n == 0
-is_tcp _ = false
+abbrev pub is_tcp_or_default_protocol : Argument → Bool
+is_tcp_or_default_protocol (Word IpprotoTcp) = true
+is_tcp_or_default_protocol (Int n) = n == 0
+is_tcp_or_default_protocol _ = false
 
 -- `SOL_TCP` or `IPPROTO_TCP`
 abbrev pub is_tcp_level : Constant → Bool
@@ -25,55 +25,55 @@ is_tcp_level IpprotoTcp = true
 is_tcp_level _ = false
 
 -- `socket(any, SOCK_STREAM, IPPROTO_TCP or 0)`
-abbrev pub socket_syscall : List Argument → Option Syscall
-socket_syscall (_ ∷ Word SockStream ∷ protocol ∷ []) = if is_tcp protocol then Some Socket else None
-socket_syscall _ = None
+abbrev pub parse_socket_arguments_if_tcp_stream : List Argument → Option Syscall
+parse_socket_arguments_if_tcp_stream (_ ∷ Word SockStream ∷ protocol ∷ []) = if is_tcp_or_default_protocol protocol then Some Socket else None
+parse_socket_arguments_if_tcp_stream _ = None
 
 -- `TCP_NODELAY` is set by 1 and cleared by 0
-abbrev pub no_delay_syscall : ℕ → ℕ → Option Syscall
-no_delay_syscall fd n = if n == 1 then Some (On fd (NoDelay true)) else if n == 0 then Some (On fd (NoDelay false)) else None
+abbrev pub nodelay_syscall_if_zero_or_one : ℕ → ℕ → Option Syscall
+nodelay_syscall_if_zero_or_one fd n = if n == 1 then Some (On fd (NoDelay true)) else if n == 0 then Some (On fd (NoDelay false)) else None
 
 -- `setsockopt(fd, SOL_SOCKET, SO_REUSEADDR, any, any)`, `setsockopt(fd, SOL_TCP or IPPROTO_TCP, TCP_NODELAY, [n], any)`
-abbrev pub setsockopt_syscall : List Argument → Option Syscall
-setsockopt_syscall (Int fd ∷ Word SolSocket ∷ Word SoReuseaddr ∷ _ ∷ _ ∷ []) = Some (On fd ReuseAddress)
-setsockopt_syscall (Int fd ∷ Word level ∷ Word TcpNodelay ∷ Element n ∷ _ ∷ []) = if is_tcp_level level then no_delay_syscall fd n else None
-setsockopt_syscall _ = None
+abbrev pub parse_setsockopt_reuseaddr_or_nodelay : List Argument → Option Syscall
+parse_setsockopt_reuseaddr_or_nodelay (Int fd ∷ Word SolSocket ∷ Word SoReuseaddr ∷ _ ∷ _ ∷ []) = Some (On fd ReuseAddress)
+parse_setsockopt_reuseaddr_or_nodelay (Int fd ∷ Word level ∷ Word TcpNodelay ∷ Element n ∷ _ ∷ []) = if is_tcp_level level then nodelay_syscall_if_zero_or_one fd n else None
+parse_setsockopt_reuseaddr_or_nodelay _ = None
 
 -- `fcntl(fd, F_SETFL, any)`
-abbrev pub fcntl_syscall : List Argument → Option Syscall
-fcntl_syscall (Int fd ∷ Word FSetfl ∷ _ ∷ []) = Some (On fd SetFlags)
-fcntl_syscall _ = None
+abbrev pub parse_fcntl_arguments_if_setfl : List Argument → Option Syscall
+parse_fcntl_arguments_if_setfl (Int fd ∷ Word FSetfl ∷ _ ∷ []) = Some (On fd SetFlags)
+parse_fcntl_arguments_if_setfl _ = None
 
 -- `bind(fd, any, any)` and `accept(fd, any, any)`
-abbrev pub bind_or_accept_syscall : SocketOperation → List Argument → Option Syscall
-bind_or_accept_syscall operation (Int fd ∷ _ ∷ _ ∷ []) = Some (On fd operation)
-bind_or_accept_syscall operation _ = None
+abbrev pub parse_bind_or_accept_arguments : SocketOperation → List Argument → Option Syscall
+parse_bind_or_accept_arguments operation (Int fd ∷ _ ∷ _ ∷ []) = Some (On fd operation)
+parse_bind_or_accept_arguments operation _ = None
 
 -- `listen(fd, any)`
-abbrev pub listen_syscall : List Argument → Option Syscall
-listen_syscall (Int fd ∷ _ ∷ []) = Some (On fd Listen)
-listen_syscall _ = None
+abbrev pub parse_listen_arguments : List Argument → Option Syscall
+parse_listen_arguments (Int fd ∷ _ ∷ []) = Some (On fd Listen)
+parse_listen_arguments _ = None
 
 -- `write(fd, any, n)`
-abbrev pub write_syscall : List Argument → Option Syscall
-write_syscall (Int fd ∷ _ ∷ Int n ∷ []) = Some (On fd (Write n))
-write_syscall _ = None
+abbrev pub parse_write_arguments : List Argument → Option Syscall
+parse_write_arguments (Int fd ∷ _ ∷ Int n ∷ []) = Some (On fd (Write n))
+parse_write_arguments _ = None
 
 -- `close_stream(fd)`
-abbrev pub close_syscall : List Argument → Option Syscall
-close_syscall (Int fd ∷ []) = Some (On fd Close)
-close_syscall _ = None
+abbrev pub parse_close_arguments : List Argument → Option Syscall
+parse_close_arguments (Int fd ∷ []) = Some (On fd Close)
+parse_close_arguments _ = None
 
 -- the request of a call of this name, where its shape is run
 abbrev pub syscall_in : Function → List Argument → Option Syscall
-syscall_in SocketCall arguments = socket_syscall arguments
-syscall_in BindCall arguments = bind_or_accept_syscall Bind arguments
-syscall_in ListenCall arguments = listen_syscall arguments
-syscall_in AcceptCall arguments = bind_or_accept_syscall Accept arguments
-syscall_in SetsockoptCall arguments = setsockopt_syscall arguments
-syscall_in FcntlCall arguments = fcntl_syscall arguments
-syscall_in WriteCall arguments = write_syscall arguments
-syscall_in CloseCall arguments = close_syscall arguments
+syscall_in SocketCall arguments = parse_socket_arguments_if_tcp_stream arguments
+syscall_in BindCall arguments = parse_bind_or_accept_arguments Bind arguments
+syscall_in ListenCall arguments = parse_listen_arguments arguments
+syscall_in AcceptCall arguments = parse_bind_or_accept_arguments Accept arguments
+syscall_in SetsockoptCall arguments = parse_setsockopt_reuseaddr_or_nodelay arguments
+syscall_in FcntlCall arguments = parse_fcntl_arguments_if_setfl arguments
+syscall_in WriteCall arguments = parse_write_arguments arguments
+syscall_in CloseCall arguments = parse_close_arguments arguments
 syscall_in _ arguments = None
 
 -- the request of a call, where its name and shape are run

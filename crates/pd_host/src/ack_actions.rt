@@ -7,7 +7,7 @@ use crate::connection::Connection;
 use crate::connection::ack_effects::WindowFill;
 use crate::halts::HostEnd;
 use crate::outbox::Outbox;
-use crate::send::{put_out_data_segment, send};
+use crate::send::{push_data_segment_to_outbox, send_all_windows_and_nagle_permit};
 use pd_recover::AckAction;
 
 /// Sends at a moment what an ACK led to.
@@ -15,7 +15,7 @@ use pd_recover::AckAction;
 /// # Errors
 /// Of the first packet that fails: `Halted` by `Limit` where the outbox is full, else `OutOfMemory` where its growth is
 /// refused or the scoreboard has found no memory before.
-pub fn send_after_ack(
+pub fn send_segments_by_ack_action(
     connection: &mut Connection,
     outbox: &mut Outbox,
     next: AckAction,
@@ -26,29 +26,39 @@ pub fn send_after_ack(
     ensures { GivesOn (λ s. after_ack_action now connection.old s next) connection.old outbox.old result connection.new outbox.new }
 {
     match next {
-        AckAction::Ordinary => send(connection, outbox, now),
-        AckAction::StepC => fill_window(connection, outbox, WindowFill::NextSeg, now),
+        AckAction::Ordinary => send_all_windows_and_nagle_permit(connection, outbox, now),
+        AckAction::StepC => send_while_cwnd_exceeds_pipe(
+            connection,
+            outbox,
+            WindowFill::NextSeg,
+            now,
+        ),
         AckAction::Entry => {
-            retransmit_at_entry(connection, outbox, now)?;
-            fill_window(connection, outbox, WindowFill::NextSeg, now)
+            retransmit_una_and_note_recovery_entry(connection, outbox, now)?;
+            send_while_cwnd_exceeds_pipe(connection, outbox, WindowFill::NextSeg, now)
         }
-        AckAction::LimitedTransmit => fill_window(connection, outbox, WindowFill::NewData, now),
+        AckAction::LimitedTransmit => send_while_cwnd_exceeds_pipe(
+            connection,
+            outbox,
+            WindowFill::NewData,
+            now,
+        ),
         AckAction::NewSegment(segment) => {
-            put_out_data_segment(connection, outbox, segment, now)?;
+            push_data_segment_to_outbox(connection, outbox, segment, now)?;
             connection.note_segment_sent(segment, now)?;
             Ok(())
         }
         AckAction::FastRetransmit(segment) => {
-            put_out_data_segment(connection, outbox, segment, now)?;
+            push_data_segment_to_outbox(connection, outbox, segment, now)?;
             connection.start_rtt_and_timer(segment, now);
-            send(connection, outbox, now)
+            send_all_windows_and_nagle_permit(connection, outbox, now)
         }
         AckAction::Nothing => Ok(()),
     }
 }
 
 /// The segment at `una` is sent again, unless its first octet is SACKed.
-fn retransmit_at_entry(
+fn retransmit_una_and_note_recovery_entry(
     connection: &mut Connection,
     outbox: &mut Outbox,
     now: u64,
@@ -58,15 +68,15 @@ fn retransmit_at_entry(
 {
     let segment = connection.first_recovery_segment();
     if segment.start < segment.end {
-        put_out_data_segment(connection, outbox, segment, now)?;
+        push_data_segment_to_outbox(connection, outbox, segment, now)?;
         connection.start_rtt_and_timer(segment, now);
     }
-    connection.note_entry_retransmit(segment);
+    connection.set_high_and_rescue_rxt_to_segment_end(segment);
     Ok(())
 }
 
 /// Segments are sent while the congestion window has room for them (RFC 6675, section 5).
-fn fill_window(
+fn send_while_cwnd_exceeds_pipe(
     connection: &mut Connection,
     outbox: &mut Outbox,
     filling: WindowFill,
@@ -76,10 +86,10 @@ fn fill_window(
     ensures { GivesOn (filled now filling) connection.old outbox.old result connection.new outbox.new }
 {
     let mut pipe = connection.pipe();
-    while let Some(sent) = connection.next_fill_segment(filling, pipe) {
+    while let Some(sent) = connection.find_nextseg_or_limited_transmit_segment(filling, pipe) {
         let segment = sent.segment();
-        put_out_data_segment(connection, outbox, segment, now)?;
-        connection.note_fill_sent(filling, &sent, now)?;
+        push_data_segment_to_outbox(connection, outbox, segment, now)?;
+        connection.note_fill_sent_in_board_and_congestion(filling, &sent, now)?;
         pipe += segment.end - segment.start;
     }
     Ok(())

@@ -1,15 +1,15 @@
 //! A segment that arrives.
 ghost use Rattle.std.specs.Prelude.{◌≡◌, ◌≤◌, ◌<◌, ◌^◌, None};
 ghost use Rattle.pd_host.specs.Arrivals.{finished_by, passed_on, arrived};
-ghost use Rattle.pd_host.specs.Handshake.{is_syn_alone, can_begin_connection, opened_by};
+ghost use Rattle.pd_host.specs.Handshake.{is_syn_alone, is_supported_syn_for_listener, opened_by};
 ghost use Rattle.pd_host.specs.Host.{with_packet};
 ghost use Rattle.pd_host.specs.InputResults.{Gives};
 ghost use Rattle.pd_host.specs.Packets.{ack_of, refusal_of};
 ghost use Rattle.pd_host.specs.Steps.{GivesOn};
 
-use crate::ack_actions::send_after_ack;
+use crate::ack_actions::send_segments_by_ack_action;
 use crate::connection::segment_check::SegmentCheck;
-use crate::connection::{Connection, refusing_rst};
+use crate::connection::{Connection, rst_refusing_ack_number};
 use crate::consulted_settings::{with_establishment_settings, with_syn_settings};
 use crate::descriptors::ListenState;
 use crate::endpoint::SenderState;
@@ -36,24 +36,30 @@ impl SenderState {
             return self.begin_connection_by_syn(segment, now);
         };
         let outbox = &mut self.endpoint.outbox;
-        match connection.failed_check(segment) {
+        match connection.find_deciding_segment_check(segment) {
             Some(SegmentCheck::NotRun) => Err(NOT_RUN),
             Some(SegmentCheck::StrayRst | SegmentCheck::WithoutAck) => Ok(()),
             Some(
                 SegmentCheck::OutsideWindow | SegmentCheck::ChallengedRst | SegmentCheck::EarlyAck,
             ) => { send_ack(connection, outbox, now) }
             Some(SegmentCheck::ExactRst) => {
-                connection.end_by_rst();
+                connection.mark_reset_and_stop_timer();
                 Ok(())
             }
-            Some(SegmentCheck::RefusedAck) => send_refusing_rst(outbox, segment.ack, now),
-            Some(SegmentCheck::OldAck) => take_and_ack_fin(connection, outbox, segment, now),
+            Some(SegmentCheck::RefusedAck) => send_rst_refusing_ack_number(
+                outbox,
+                segment.ack,
+                now,
+            ),
+            Some(SegmentCheck::OldAck) => take_and_ack_fin_if_present(
+                connection, outbox, segment, now,
+            ),
             Some(SegmentCheck::FirstAck) => {
                 connection.establish(&self.settings, segment, now);
                 self.consulted_settings = with_establishment_settings(self.consulted_settings);
-                take_and_ack_fin(connection, outbox, segment, now)
+                take_and_ack_fin_if_present(connection, outbox, segment, now)
             }
-            None => process_acceptable_segment(connection, outbox, segment, now),
+            None => take_ack_then_send_then_take_fin(connection, outbox, segment, now),
         }
     }
 
@@ -62,7 +68,7 @@ impl SenderState {
         requires early { now < 2 ^ 62 }
         ensures { Gives (opened_by now segment.now self.old) result self.new }
     {
-        if !can_begin_connection(self.endpoint.listener, segment) {
+        if !is_supported_syn_for_listener(self.endpoint.listener, segment) {
             return Err(NOT_RUN);
         }
         let alloc = self.endpoint.outbox.allocator();
@@ -76,7 +82,7 @@ impl SenderState {
 
 /// A segment that passed all checks is taken at a moment, and then its FIN.
 #[inline(always)]
-fn process_acceptable_segment(
+fn take_ack_then_send_then_take_fin(
     connection: &mut Connection,
     outbox: &mut Outbox,
     segment: &Segment,
@@ -87,14 +93,14 @@ fn process_acceptable_segment(
     requires sent { segment.now.ack ≤ connection.old.board.top }
     ensures { GivesOn (λ s. passed_on now segment.now connection.old s None) connection.old outbox.old result connection.new outbox.new }
 {
-    let then = connection.process_acceptable_segment(segment, now)?;
-    send_after_ack(connection, outbox, then, now)?;
-    take_and_ack_fin(connection, outbox, segment, now)
+    let then = connection.update_by_ack_and_choose_ack_action(segment, now)?;
+    send_segments_by_ack_action(connection, outbox, then, now)?;
+    take_and_ack_fin_if_present(connection, outbox, segment, now)
 }
 
 /// The peer's FIN, where the segment has one, is taken and answered by an ACK.
 #[inline(always)]
-fn take_and_ack_fin(
+fn take_and_ack_fin_if_present(
     connection: &mut Connection,
     outbox: &mut Outbox,
     segment: &Segment,
@@ -113,15 +119,15 @@ fn take_and_ack_fin(
 fn send_ack(connection: &Connection, outbox: &mut Outbox, now: u64) -> Result<(), HostEnd>
     ensures { Gives (with_packet now (ack_of connection.now) outbox.old) result outbox.new }
 {
-    let ack = connection.acknowledgment(outbox.allocator());
+    let ack = connection.pure_ack_segment(outbox.allocator());
     outbox.push(ack, now)
 }
 
 /// The RST that refuses an ACK is put out at a moment.
-fn send_refusing_rst(outbox: &mut Outbox, ack: u32, now: u64) -> Result<(), HostEnd>
+fn send_rst_refusing_ack_number(outbox: &mut Outbox, ack: u32, now: u64) -> Result<(), HostEnd>
     ensures { Gives (with_packet now (refusal_of ack) outbox.old) result outbox.new }
 {
-    let rst = refusing_rst(ack, outbox.allocator());
+    let rst = rst_refusing_ack_number(ack, outbox.allocator());
     outbox.push(rst, now)
 }
 
@@ -132,8 +138,8 @@ fn is_syn_alone(flags: Flags) -> bool
 }
 
 /// Whether a first segment begins the connection.
-fn can_begin_connection(listener: ListenState, segment: &Segment) -> bool
-    ensures { result ≡ can_begin_connection listener segment.now }
+fn is_supported_syn_for_listener(listener: ListenState, segment: &Segment) -> bool
+    ensures { result ≡ is_supported_syn_for_listener listener segment.now }
 {
     listener.is_listening()
         && is_syn_alone(segment.flags)

@@ -4,7 +4,7 @@ ghost use Rattle.pd_host.specs.Arrivals.{reset_of, with_peer_fin};
 ghost use Rattle.pd_host.specs.Calls.{stream_of, with_stream, with_nagle, free_of, with_queued, with_fin};
 ghost use Rattle.pd_host.specs.Connection.{peer_fin_in, rcv_nxt};
 ghost use Rattle.pd_host.specs.Inner.{IsScalable};
-ghost use Rattle.pd_host.specs.Handshake.{offered_mss, is_peer_mss_supported, smss_of, scaling_of, connection_begun, scaled_window_in, syn_acked, new_established_parts, established_by};
+ghost use Rattle.pd_host.specs.Handshake.{offered_mss, is_peer_mss_supported, smss_of, agreed_window_scaling_if_offered, connection_begun, scaled_window_in, syn_acked, new_established_parts, established_by};
 ghost use Rattle.pd_host.specs.Sending.{is_recovering};
 ghost use Rattle.pd_host.specs.declared.descriptors.StreamState.TheVariants.{Open as StreamOpen, Closed as StreamClosed};
 ghost use Rattle.pd_host.specs.Packets.{peer_window_shift};
@@ -24,7 +24,7 @@ use self::rtt_segment::RttSegment;
 use crate::descriptors::StreamState;
 use crate::established::{Established, PeerFin};
 use crate::syn_options::SynOptions;
-pub use control_segments::refusing_rst;
+pub use control_segments::rst_refusing_ack_number;
 use pd_board::Board;
 use pd_recover::Cong;
 use pd_seg::{Segment, Span};
@@ -112,8 +112,8 @@ fn smss_of(settings: &Settings, syn_options: SynOptions) -> u16
     settings.mss.min(syn_options.mss.unwrap_or(DEFAULT_MSS))
 }
 
-fn scaling_of(settings: &Settings, syn_options: SynOptions) -> Option<Scaling>
-    ensures agreed { result ≡ scaling_of settings.now syn_options }
+fn agreed_window_scaling_if_offered(settings: &Settings, syn_options: SynOptions) -> Option<Scaling>
+    ensures agreed { result ≡ agreed_window_scaling_if_offered settings.now syn_options }
     ensures small { IsScalable result }
 {
     match syn_options.count {
@@ -138,7 +138,7 @@ impl Connection {
         Connection {
             own_mss: settings.mss,
             sack: settings.sack && syn_options.sack,
-            scaling: scaling_of(settings, syn_options),
+            scaling: agreed_window_scaling_if_offered(settings, syn_options),
             rcv_wnd: settings.rcv_wnd,
             board: Board::new(alloc, smss_of(settings, syn_options)),
             fin: false,
@@ -195,7 +195,7 @@ impl Connection {
     {
         let established = self.new_established_parts(settings, segment);
         let max_window = self.max_window_with(established.rwnd);
-        self.take_ack_of_syn(settings.granularity_us, now);
+        self.acknowledge_syn_in_board_and_timer(settings.granularity_us, now);
         self.set_max_window_and_established(max_window, established);
     }
 
@@ -207,7 +207,7 @@ impl Connection {
     }
 
     /// Our SYN is acknowledged at a moment.
-    fn take_ack_of_syn(&mut self, granularity_us: u64, now: u64)
+    fn acknowledge_syn_in_board_and_timer(&mut self, granularity_us: u64, now: u64)
         requires early { now < 2 ^ 62 }
         requires begun { self.old.board.una ≤ 1 }
         requires sent { 1 ≤ self.old.board.top }
@@ -215,7 +215,7 @@ impl Connection {
     {
         self.board.take_ack(1);
         self.sample(now, granularity_us, 1);
-        self.end_handshake_timer();
+        self.stop_handshake_timer_set_rto_if_resent();
     }
 
     fn set_max_window_and_established(&mut self, max_window: u32, established: Established)
@@ -280,7 +280,7 @@ impl Connection {
     }
 
     /// An RST ends the connection for good.
-    pub fn end_by_rst(&mut self)
+    pub fn mark_reset_and_stop_timer(&mut self)
         ensures { self.new ≡ reset_of self.old }
     {
         self.is_reset = true;
@@ -307,7 +307,7 @@ impl Connection {
     }
 
     /// How many octets `write` may still queue, by the setting `sndbuf`.
-    pub fn free_send_buffer(&self, sndbuf: u32) -> u32
+    pub fn remaining_send_buffer_octets(&self, sndbuf: u32) -> u32
         ensures { result ≡ free_of sndbuf self.now }
     {
         sndbuf.saturating_sub(self.board.end() - self.board.una())
@@ -330,8 +330,8 @@ impl Connection {
         self.fin = true;
     }
 
-    /// `close_stream` closes descriptor 4.
-    pub fn close_stream(&mut self)
+    /// `close` closes descriptor 4.
+    pub fn mark_stream_descriptor_closed(&mut self)
         ensures { self.new ≡ with_stream StreamClosed self.old }
     {
         if let Some(established) = &mut self.established {

@@ -25,7 +25,7 @@ pub fn with_syn_settings(consulted_settings: SettingSet) -> SettingSet
 pub fn with_establishment_settings(consulted_settings: SettingSet) -> SettingSet
     ensures { result ≡ establishment_settings consulted_settings }
 {
-    Cong::with_congestion_settings(SettingSet {
+    Cong::setting_set_with_congestion_settings(SettingSet {
         nagle: true,
         granularity_us: true,
         ..consulted_settings

@@ -70,7 +70,7 @@ impl Established {
     }
 
     /// This window, in octets, is taken from a segment.
-    pub fn take_window(&mut self, segment: &Segment, window: u32)
+    pub fn set_rwnd_wl1_and_wl2(&mut self, segment: &Segment, window: u32)
         ensures { self.new ≡ with_window window segment.now self.old }
     {
         self.rwnd = window;

@@ -78,12 +78,12 @@ impl Host {
         if let Some(ending) = self.end_reason {
             return Err(ending);
         }
-        let Some(syscall) = Syscall::of(call) else {
-            return Err(self.record_host_end(HostEnd::Halted(Halt::Unsupported)));
+        let Some(syscall) = Syscall::parse_call_if_supported(call) else {
+            return Err(self.set_and_return_end_reason(HostEnd::Halted(Halt::Unsupported)));
         };
         match self.state.call(syscall, now) {
             Ok(answer) => Ok(answer),
-            Err(ending) => Err(self.record_host_end(ending)),
+            Err(ending) => Err(self.set_and_return_end_reason(ending)),
         }
     }
 
@@ -102,18 +102,18 @@ impl Host {
         }
         match self.state.arrive(segment, now) {
             Ok(()) => Ok(()),
-            Err(ending) => Err(self.record_host_end(ending)),
+            Err(ending) => Err(self.set_and_return_end_reason(ending)),
         }
     }
 
     /// The check that a segment doesn't pass which arrives on the connection; nothing where it passes all, or no connection was
     /// begun.
-    pub fn failed_check(&self, segment: &Segment) -> Option<SegmentCheck>
+    pub fn find_deciding_segment_check(&self, segment: &Segment) -> Option<SegmentCheck>
         ensures { result ≡ failed_check_in segment.now self.now.state }
     {
         match &self.state.endpoint.connection {
             None => None,
-            Some(connection) => connection.failed_check(segment),
+            Some(connection) => connection.find_deciding_segment_check(segment),
         }
     }
 
@@ -130,7 +130,7 @@ impl Host {
             Some(ending) => Err(ending),
             None => match self.state.advance(until) {
                 Ok(()) => Ok(()),
-                Err(halted) => Err(self.record_host_end(halted)),
+                Err(halted) => Err(self.set_and_return_end_reason(halted)),
             },
         }
     }
@@ -187,12 +187,12 @@ impl Host {
     }
 
     /// The effect of a duplicate; nothing where no octet is outstanding, loss recovery goes on, or no connection is established.
-    pub fn dup_ack_effect(&self) -> Option<DupAckEffect>
+    pub fn next_dup_ack_effect_if_any(&self) -> Option<DupAckEffect>
         ensures { result ≡ dup_ack_status_in self.now.state }
     {
         match &self.state.endpoint.connection {
             None => None,
-            Some(connection) => connection.dup_ack_effect(),
+            Some(connection) => connection.next_dup_ack_effect_if_any(),
         }
     }
 
@@ -265,12 +265,12 @@ impl Host {
 
     /// No memory was found for the next input: the host answers that from now on, unless it has ended already.
     /// The result is its answer.
-    pub fn fail_out_of_memory(&mut self) -> HostEnd
+    pub fn end_out_of_memory_unless_ended(&mut self) -> HostEnd
         ensures ending { result ≡ end_of self.old }
         ensures end_reason { self.new ≡ ended_out_of_memory self.old }
     {
         let ending = self.end_reason.unwrap_or(HostEnd::OutOfMemory);
-        self.record_host_end(ending)
+        self.set_and_return_end_reason(ending)
     }
 
     /// The same host once more.
@@ -327,7 +327,7 @@ impl Host {
     }
 
     /// The host has ended by this.
-    fn record_host_end(&mut self, ending: HostEnd) -> HostEnd
+    fn set_and_return_end_reason(&mut self, ending: HostEnd) -> HostEnd
         ensures ending { result ≡ ending }
         ensures end_reason { self.new ≡ record self.old { end_reason = Some ending } }
     {

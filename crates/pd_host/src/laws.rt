@@ -8,11 +8,11 @@ ghost use Rattle.pd_host.specs.Invariants.{StartsLawful, AdvancesStayLawful, Arr
 ghost use Rattle.pd_host.specs.InputLaws.{OutsideIsHarmless, OnlyAnExactRstResets, PutsOutAfter, OnlyUsesMatter, OtherSettingsKeepUp, CallsPutOutAfter, CallsOnlyUse, AdvancesPutOutAfter, AdvancesUseNone, ArrivalsNote, CallsNote, AdvancesNote};
 ghost use Rattle.pd_host.specs.SendingLaws.{ControlsFlow, StaysInWindow, ControlsCongestion, KeepsToWindow, RecoversInProportion, SendsOneByOne, SendsAllThatMay, TimesOnce, MeasuresWhatIsSentOnce, EndsWithFin, SparesWhatArrived, EndsRecovery};
 
-use pd_recover::law_recovery;
-use pd_timer::law_timers;
+use pd_recover::law_congestion_control_and_loss_recovery;
+use pd_timer::law_rto_bounded_and_expiries_back_off;
 
 /// The laws of every segment that arrives, whatever the checks and their order.
-pub fn law_arrivals()
+pub fn law_outside_arrivals_harmless_exact_rst_resets()
     ensures outside { OutsideIsHarmless }
     ensures resets { OnlyAnExactRstResets }
     ensures packets { PutsOutAfter }
@@ -21,21 +21,21 @@ pub fn law_arrivals()
 {}
 
 /// The laws of every call, whatever it asks.
-pub fn law_calls()
+pub fn law_calls_append_and_depend_on_consulted()
     ensures packets { CallsPutOutAfter }
     ensures settings { CallsOnlyUse }
     ensures consulted_settings { CallsNote }
 {}
 
 /// The laws of all expiries up to a moment.
-pub fn law_advances()
+pub fn law_expiries_append_in_order_without_settings()
     ensures packets { AdvancesPutOutAfter }
     ensures settings { AdvancesUseNone }
     ensures consulted_settings { AdvancesNote }
 {}
 
 /// The laws of all that is sent, whatever came in.
-pub fn law_sending()
+pub fn law_sends_exactly_what_windows_permit()
     ensures flow { ControlsFlow }
     ensures window { StaysInWindow }
     ensures congestion { ControlsCongestion }
@@ -48,16 +48,16 @@ pub fn law_sending()
     ensures sacked { SparesWhatArrived }
     ensures recovery { EndsRecovery }
 {
-    law_recovery();
+    law_congestion_control_and_loss_recovery();
 }
 
 /// Sending and expiries put out one packet each time that they go on.
-pub fn law_sending_one_by_one()
+pub fn law_each_send_appends_one_packet()
     ensures { SendsOneByOne }
 {}
 
 /// At which moments packets left and the next expiry lies, whatever came in.
-pub fn law_times()
+pub fn law_packets_in_order_and_deadline_ahead()
     ensures start { StartsUpToDate }
     ensures advances { AdvancesKeepUp }
     ensures arrivals { ArrivalsKeepUp }
@@ -65,11 +65,11 @@ pub fn law_times()
     ensures taking { TakingKeepsUp }
     ensures rebinding { OtherSettingsKeepUp }
 {
-    law_timers();
+    law_rto_bounded_and_expiries_back_off();
 }
 
 /// The laws of every state that the rules reach, whatever came in.
-pub fn law_states()
+pub fn law_reachable_states_lawful_and_follow_diagram()
     ensures start { StartsLawful }
     ensures advances { AdvancesStayLawful }
     ensures arrivals { ArrivalsStayLawful }
@@ -80,22 +80,22 @@ pub fn law_states()
     ensures resets { EndsForGood }
     ensures figure { FollowsStateDiagram }
 {
-    law_timers();
-    law_recovery();
+    law_rto_bounded_and_expiries_back_off();
+    law_congestion_control_and_loss_recovery();
 }
 
 /// Where nothing holds a segment back ordinary sending finds one, and only there.
-pub fn law_send_blockers()
+pub fn law_sends_exactly_where_nothing_blocks()
     ensures { SendsWhereNothingBlocks }
 {}
 
 /// Loss recovery begins where the shown evidence is complete, and nowhere else.
-pub fn law_loss_evidence()
+pub fn law_recovery_begins_iff_evidence_complete()
     ensures { LossEvidenceIsNeeded }
 {}
 
 /// How much an input queues at most.
-pub fn law_growth()
+pub fn law_queued_octets_per_input_bounded()
     ensures expiries { ExpiriesQueueNothing }
     ensures arrivals { ArrivalsQueueOurSyn }
     ensures calls { CallsQueueWhatTheyAsk }

@@ -23,7 +23,7 @@
 //! ```
 //!
 //! Every state that the rules reach is lawful: `IsLawful` (specs/Invariants.antt), the law
-//! `law_states`. An input gives the state and the answer of its rule, or ends the host by
+//! `law_reachable_states_lawful_and_follow_diagram`. An input gives the state and the answer of its rule, or ends the host by
 //! the rule's halt: `Goes` and `Answers` (specs/InputResults.antt). A host that has ended answers that
 //! again.
 //!
@@ -71,8 +71,11 @@ pub use endpoint::ClonedParts;
 pub use halts::{Halt, HostEnd};
 pub use host::Host;
 pub use laws::{
-    law_advances, law_arrivals, law_calls, law_growth, law_loss_evidence, law_send_blockers,
-    law_sending, law_sending_one_by_one, law_states, law_times,
+    law_calls_append_and_depend_on_consulted, law_each_send_appends_one_packet,
+    law_expiries_append_in_order_without_settings, law_outside_arrivals_harmless_exact_rst_resets,
+    law_packets_in_order_and_deadline_ahead, law_queued_octets_per_input_bounded,
+    law_reachable_states_lawful_and_follow_diagram, law_recovery_begins_iff_evidence_complete,
+    law_sends_exactly_what_windows_permit, law_sends_exactly_where_nothing_blocks,
 };
 pub use outbox::Outbox;
 pub use syscall::{SocketOperation, Syscall, is_shape_supported};

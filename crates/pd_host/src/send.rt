@@ -12,7 +12,7 @@ use crate::outbox::Outbox;
 use pd_seg::Span;
 
 /// Puts a segment of a connection out at a moment.
-pub fn put_out_data_segment(
+pub fn push_data_segment_to_outbox(
     connection: &Connection,
     outbox: &mut Outbox,
     segment: Span,
@@ -30,16 +30,20 @@ pub fn put_out_data_segment(
 /// # Errors
 /// Of the first packet that fails: `Halted` by `Limit` where the outbox is full, else `OutOfMemory` where its growth is
 /// refused or the scoreboard has found no memory before.
-pub fn send(connection: &mut Connection, outbox: &mut Outbox, now: u64) -> Result<(), HostEnd>
+pub fn send_all_windows_and_nagle_permit(
+    connection: &mut Connection,
+    outbox: &mut Outbox,
+    now: u64,
+) -> Result<(), HostEnd>
     requires early { now < 2 ^ 62 }
     ensures { GivesOn (ordinary now) connection.old outbox.old result connection.new outbox.new }
 {
     connection.restart_cwnd_if_idle(now);
-    connection.skip_sacked();
+    connection.advance_next_past_sacked();
     while let Some(segment) = connection.next_segment() {
-        put_out_data_segment(connection, outbox, segment, now)?;
+        push_data_segment_to_outbox(connection, outbox, segment, now)?;
         connection.note_segment_sent(segment, now)?;
-        connection.skip_sacked();
+        connection.advance_next_past_sacked();
     }
     Ok(())
 }

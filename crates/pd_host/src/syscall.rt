@@ -1,6 +1,6 @@
 //! Requests of calls, where their names and shapes are run.
 ghost use Rattle.std.specs.Prelude.{◌≡◌, is_some};
-ghost use Rattle.pd_host.specs.Syscalls.{is_tcp, is_tcp_level, socket_syscall, no_delay_syscall, setsockopt_syscall, fcntl_syscall, bind_or_accept_syscall, listen_syscall, write_syscall, close_syscall, syscall_of};
+ghost use Rattle.pd_host.specs.Syscalls.{is_tcp_or_default_protocol, is_tcp_level, parse_socket_arguments_if_tcp_stream, nodelay_syscall_if_zero_or_one, parse_setsockopt_reuseaddr_or_nodelay, parse_fcntl_arguments_if_setfl, parse_bind_or_accept_arguments, parse_listen_arguments, parse_write_arguments, parse_close_arguments, syscall_of};
 
 use pd_script::{Argument, Call, Constant, Function};
 
@@ -33,36 +33,36 @@ pub enum SocketOperation {
 pub fn is_shape_supported(call: &Call) -> bool
     ensures { result ≡ is_some (syscall_of call.now) }
 {
-    Syscall::of(call).is_some()
+    Syscall::parse_call_if_supported(call).is_some()
 }
 
 impl Syscall {
     /// The request of a call, or `None` for a call whose name or shape isn't run.
     #[inline(always)]
-    pub fn of(call: &Call) -> Option<Syscall>
+    pub fn parse_call_if_supported(call: &Call) -> Option<Syscall>
         ensures { result ≡ syscall_of call.now }
     {
         let arguments = call.arguments.as_slice();
         match call.function {
-            Function::Socket => socket_syscall(arguments),
-            Function::Bind => bind_or_accept_syscall(SocketOperation::Bind, arguments),
-            Function::Listen => listen_syscall(arguments),
-            Function::Accept => bind_or_accept_syscall(SocketOperation::Accept, arguments),
-            Function::Setsockopt => setsockopt_syscall(arguments),
-            Function::Fcntl => fcntl_syscall(arguments),
-            Function::Write => write_syscall(arguments),
-            Function::Close => close_syscall(arguments),
+            Function::Socket => parse_socket_arguments_if_tcp_stream(arguments),
+            Function::Bind => parse_bind_or_accept_arguments(SocketOperation::Bind, arguments),
+            Function::Listen => parse_listen_arguments(arguments),
+            Function::Accept => parse_bind_or_accept_arguments(SocketOperation::Accept, arguments),
+            Function::Setsockopt => parse_setsockopt_reuseaddr_or_nodelay(arguments),
+            Function::Fcntl => parse_fcntl_arguments_if_setfl(arguments),
+            Function::Write => parse_write_arguments(arguments),
+            Function::Close => parse_close_arguments(arguments),
             Function::Unknown => None,
         }
     }
 }
 
-fn socket_syscall(arguments: &[Argument]) -> Option<Syscall>
-    ensures { result ≡ socket_syscall arguments.now }
+fn parse_socket_arguments_if_tcp_stream(arguments: &[Argument]) -> Option<Syscall>
+    ensures { result ≡ parse_socket_arguments_if_tcp_stream arguments.now }
 {
     match arguments {
         [_, Argument::Constant(Constant::SockStream), protocol] => {
-            if is_tcp(*protocol) {
+            if is_tcp_or_default_protocol(*protocol) {
                 Some(Syscall::Socket)
             } else {
                 None
@@ -72,8 +72,8 @@ fn socket_syscall(arguments: &[Argument]) -> Option<Syscall>
     }
 }
 
-fn is_tcp(protocol: Argument) -> bool
-    ensures { result ≡ is_tcp protocol }
+fn is_tcp_or_default_protocol(protocol: Argument) -> bool
+    ensures { result ≡ is_tcp_or_default_protocol protocol }
 {
     match protocol {
         Argument::Constant(Constant::IpprotoTcp) => true,
@@ -83,8 +83,11 @@ fn is_tcp(protocol: Argument) -> bool
 }
 
 /// The shape of `bind` and `accept`.
-fn bind_or_accept_syscall(operation: SocketOperation, arguments: &[Argument]) -> Option<Syscall>
-    ensures { result ≡ bind_or_accept_syscall operation arguments.now }
+fn parse_bind_or_accept_arguments(
+    operation: SocketOperation,
+    arguments: &[Argument],
+) -> Option<Syscall>
+    ensures { result ≡ parse_bind_or_accept_arguments operation arguments.now }
 {
     match arguments {
         [Argument::Int(fd), _, _] => Some(Syscall::On(*fd, operation)),
@@ -92,8 +95,8 @@ fn bind_or_accept_syscall(operation: SocketOperation, arguments: &[Argument]) ->
     }
 }
 
-fn listen_syscall(arguments: &[Argument]) -> Option<Syscall>
-    ensures { result ≡ listen_syscall arguments.now }
+fn parse_listen_arguments(arguments: &[Argument]) -> Option<Syscall>
+    ensures { result ≡ parse_listen_arguments arguments.now }
 {
     match arguments {
         [Argument::Int(fd), _] => Some(Syscall::On(*fd, SocketOperation::Listen)),
@@ -101,8 +104,8 @@ fn listen_syscall(arguments: &[Argument]) -> Option<Syscall>
     }
 }
 
-fn setsockopt_syscall(arguments: &[Argument]) -> Option<Syscall>
-    ensures { result ≡ setsockopt_syscall arguments.now }
+fn parse_setsockopt_reuseaddr_or_nodelay(arguments: &[Argument]) -> Option<Syscall>
+    ensures { result ≡ parse_setsockopt_reuseaddr_or_nodelay arguments.now }
 {
     match arguments {
         [
@@ -120,7 +123,7 @@ fn setsockopt_syscall(arguments: &[Argument]) -> Option<Syscall>
             _,
         ] => {
             if is_tcp_level(*level) {
-                no_delay_syscall(*fd, *n)
+                nodelay_syscall_if_zero_or_one(*fd, *n)
             } else {
                 None
             }
@@ -135,8 +138,8 @@ fn is_tcp_level(level: Constant) -> bool
     matches!(level, Constant::SolTcp | Constant::IpprotoTcp)
 }
 
-fn no_delay_syscall(fd: u64, n: u64) -> Option<Syscall>
-    ensures { result ≡ no_delay_syscall fd n }
+fn nodelay_syscall_if_zero_or_one(fd: u64, n: u64) -> Option<Syscall>
+    ensures { result ≡ nodelay_syscall_if_zero_or_one fd n }
 {
     match n {
         1 => Some(Syscall::On(fd, SocketOperation::NoDelay(true))),
@@ -145,8 +148,8 @@ fn no_delay_syscall(fd: u64, n: u64) -> Option<Syscall>
     }
 }
 
-fn fcntl_syscall(arguments: &[Argument]) -> Option<Syscall>
-    ensures { result ≡ fcntl_syscall arguments.now }
+fn parse_fcntl_arguments_if_setfl(arguments: &[Argument]) -> Option<Syscall>
+    ensures { result ≡ parse_fcntl_arguments_if_setfl arguments.now }
 {
     match arguments {
         [Argument::Int(fd), Argument::Constant(Constant::FSetfl), _] => {
@@ -156,8 +159,8 @@ fn fcntl_syscall(arguments: &[Argument]) -> Option<Syscall>
     }
 }
 
-fn write_syscall(arguments: &[Argument]) -> Option<Syscall>
-    ensures { result ≡ write_syscall arguments.now }
+fn parse_write_arguments(arguments: &[Argument]) -> Option<Syscall>
+    ensures { result ≡ parse_write_arguments arguments.now }
 {
     match arguments {
         [Argument::Int(fd), _, Argument::Int(n)] => Some(Syscall::On(
@@ -168,8 +171,8 @@ fn write_syscall(arguments: &[Argument]) -> Option<Syscall>
     }
 }
 
-fn close_syscall(arguments: &[Argument]) -> Option<Syscall>
-    ensures { result ≡ close_syscall arguments.now }
+fn parse_close_arguments(arguments: &[Argument]) -> Option<Syscall>
+    ensures { result ≡ parse_close_arguments arguments.now }
 {
     match arguments {
         [Argument::Int(fd)] => Some(Syscall::On(*fd, SocketOperation::Close)),

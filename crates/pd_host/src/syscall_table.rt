@@ -1,6 +1,6 @@
 //! The table of calls.
 ghost use Rattle.std.specs.Prelude.{◌≡◌, ℕ, ◌+◌, ◌<◌, ◌^◌, min, Some, Ok};
-ghost use Rattle.pd_host.specs.Calls.{Listening, open_stream, has_unaccepted_connection, socket_reply, bind_reply, listen_reply, accept_reply, handed_out, free_of, queued, closed_on, close_reply, operated, on_open, reply_to};
+ghost use Rattle.pd_host.specs.Calls.{Listening, open_stream, has_begun_unaccepted_connection, socket_reply, bind_reply, listen_reply, accept_reply, handed_out, free_of, queued, closed_on, close_reply, operated, on_open, reply_to};
 ghost use Rattle.pd_host.specs.InputResults.{GivesAnswer};
 ghost use Rattle.pd_host.specs.Growth.{asked_by, asked_of, HasRoomFor};
 ghost use Rattle.pd_host.specs.Steps.{AnswersOn};
@@ -11,7 +11,7 @@ use crate::descriptors::ListenState;
 use crate::endpoint::{Endpoint, SenderState};
 use crate::halts::{Halt, HostEnd};
 use crate::outbox::Outbox;
-use crate::send::send;
+use crate::send::send_all_windows_and_nagle_permit;
 use crate::syscall::{SocketOperation, Syscall};
 use pd_seg::{Answer, Errno};
 
@@ -28,8 +28,8 @@ const DONE: Answer = Answer::Number(0);
 const NOT_RUN: HostEnd = HostEnd::Halted(Halt::Unsupported);
 
 impl Endpoint {
-    fn has_unaccepted_connection(&self) -> bool
-        ensures { result ≡ has_unaccepted_connection self.now.connection }
+    fn has_begun_unaccepted_connection(&self) -> bool
+        ensures { result ≡ has_begun_unaccepted_connection self.now.connection }
     {
         match &self.connection {
             None => false,
@@ -42,8 +42,8 @@ impl SenderState {
     /// Answers a request at a moment. A descriptor that isn't open answers EBADF, before all else.
     ///
     /// # Errors
-    /// `Halted` by `Unsupported` for a `socket` that isn't the first, and for a `close_stream` of 3 while a connection was begun
-    /// that isn't accepted; for a `write` and a `close_stream` of 4 those of `send`.
+    /// `Halted` by `Unsupported` for a `socket` that isn't the first, and for a `close` of 3 while a connection was begun
+    /// that isn't accepted; for a `write` and a `close` of 4 those of `send`.
     #[inline(always)]
     pub fn call(&mut self, syscall: Syscall, now: u64) -> Result<Answer, HostEnd>
         requires early { now < 2 ^ 62 }
@@ -51,7 +51,7 @@ impl SenderState {
         ensures { GivesAnswer (reply_to now self.old syscall) result self.new }
     {
         let Syscall::On(fd, operation) = syscall else {
-            return self.socket();
+            return self.answer_socket_if_listener_absent();
         };
         if fd == u64::from(LISTENER) && self.endpoint.listener.is_open() {
             self.answer_on_listener(operation)
@@ -62,7 +62,7 @@ impl SenderState {
         }
     }
 
-    fn socket(&mut self) -> Result<Answer, HostEnd>
+    fn answer_socket_if_listener_absent(&mut self) -> Result<Answer, HostEnd>
         ensures { GivesAnswer (socket_reply self.old self.old.endpoint.listener) result self.new }
     {
         match self.endpoint.listener {
@@ -79,18 +79,18 @@ impl SenderState {
         ensures { (now : ℕ) → GivesAnswer (operated now self.old Listening operation) result self.new }
     {
         match operation {
-            SocketOperation::Bind => Ok(self.bind()),
-            SocketOperation::Listen => Ok(self.listen()),
-            SocketOperation::Accept => Ok(self.accept()),
+            SocketOperation::Bind => Ok(self.bind_once_or_einval()),
+            SocketOperation::Listen => Ok(self.listen_if_bound_or_einval()),
+            SocketOperation::Accept => Ok(self.accept_if_listening_or_einval()),
             SocketOperation::ReuseAddress
             | SocketOperation::NoDelay(_)
             | SocketOperation::SetFlags => Ok(DONE),
             SocketOperation::Write(_) => Ok(Answer::Error(Errno::Einval)),
-            SocketOperation::Close => self.close_listener(),
+            SocketOperation::Close => self.close_listener_unless_accept_pending(),
         }
     }
 
-    fn bind(&mut self) -> Answer
+    fn bind_once_or_einval(&mut self) -> Answer
         ensures { bind_reply self.old self.old.endpoint.listener Listening ≡ Ok (self.new, result) }
     {
         match self.endpoint.listener {
@@ -102,7 +102,7 @@ impl SenderState {
         }
     }
 
-    fn listen(&mut self) -> Answer
+    fn listen_if_bound_or_einval(&mut self) -> Answer
         ensures { listen_reply self.old self.old.endpoint.listener Listening ≡ Ok (self.new, result) }
     {
         match self.endpoint.listener {
@@ -115,17 +115,17 @@ impl SenderState {
         }
     }
 
-    fn accept(&mut self) -> Answer
+    fn accept_if_listening_or_einval(&mut self) -> Answer
         ensures { accept_reply self.old self.old.endpoint.listener Listening ≡ Ok (self.new, result) }
     {
         match self.endpoint.listener {
-            ListenState::Listens => self.hand_out_connection(),
+            ListenState::Listens => self.hand_out_connection_or_eagain(),
             _ => Answer::Error(Errno::Einval),
         }
     }
 
     /// Hands out the connection, if it was established and isn't accepted.
-    fn hand_out_connection(&mut self) -> Answer
+    fn hand_out_connection_or_eagain(&mut self) -> Answer
         ensures { handed_out self.old self.old.endpoint.connection ≡ Ok (self.new, result) }
     {
         let Some(connection) = &mut self.endpoint.connection else {
@@ -139,10 +139,10 @@ impl SenderState {
         }
     }
 
-    fn close_listener(&mut self) -> Result<Answer, HostEnd>
+    fn close_listener_unless_accept_pending(&mut self) -> Result<Answer, HostEnd>
         ensures { GivesAnswer (close_reply 0 self.old Listening) result self.new }
     {
-        if self.endpoint.has_unaccepted_connection() {
+        if self.endpoint.has_begun_unaccepted_connection() {
             return Err(NOT_RUN);
         }
         self.endpoint.listener = ListenState::Closed;
@@ -181,7 +181,11 @@ impl SenderState {
                 let sndbuf = self.settings.sndbuf;
                 write(connection, &mut self.endpoint.outbox, n, sndbuf, now)
             }
-            SocketOperation::Close => close_stream(connection, &mut self.endpoint.outbox, now),
+            SocketOperation::Close => close_stream_and_send_fin_unless_reset(
+                connection,
+                &mut self.endpoint.outbox,
+                now,
+            ),
         }
     }
 }
@@ -198,7 +202,7 @@ fn write(
     requires room { connection.old.board.end + min n sndbuf < 2 ^ 31 }
     ensures { AnswersOn (queued now n (free_of sndbuf connection.old) connection.old) connection.old outbox.old result connection.new outbox.new }
 {
-    let free_send_buffer = connection.free_send_buffer(sndbuf);
+    let free_send_buffer = connection.remaining_send_buffer_octets(sndbuf);
     if free_send_buffer == 0 {
         return Ok(Answer::Error(Errno::Eagain));
     }
@@ -206,13 +210,13 @@ fn write(
     connection.queue_octets(count);
     // In recovery segments leave for an ACK alone: a call sends nothing by itself (own).
     if !connection.is_recovering() {
-        send(connection, outbox, now)?;
+        send_all_windows_and_nagle_permit(connection, outbox, now)?;
     }
     Ok(Answer::Number(count))
 }
 
 /// Descriptor 4 is closed, and a FIN queued and sent unless the connection was reset.
-fn close_stream(
+fn close_stream_and_send_fin_unless_reset(
     connection: &mut Connection,
     outbox: &mut Outbox,
     now: u64,
@@ -221,11 +225,11 @@ fn close_stream(
     requires room { connection.old.board.end + 1 < 2 ^ 31 }
     ensures { AnswersOn (closed_on now connection.old) connection.old outbox.old result connection.new outbox.new }
 {
-    connection.close_stream();
+    connection.mark_stream_descriptor_closed();
     if !connection.is_reset() {
         connection.queue_fin();
         if !connection.is_recovering() {
-            send(connection, outbox, now)?;
+            send_all_windows_and_nagle_permit(connection, outbox, now)?;
         }
     }
     Ok(DONE)

@@ -2,16 +2,16 @@
 use Rattle.std.proofs.Common.{◌≡◌, ℕ, ◌&&◌, ◌==◌, Bool, true, false, List, [], ◌∷◌, length, take, drop, Option, Some, None, bytes_eq, codes, if◌then◌else◌, refl, ◌<◌, ◌≤◌, ◌+◌, arith}
 use Rattle.std.specs.Option.{option_map_or}
 use Rattle.std.proofs.lemmas.Slice.Eq.{bytes_eq-Decides}
-use Rattle.pd_layout.specs.Canonical.{rest_after_comment, trail}
+use Rattle.pd_layout.specs.Canonical.{find_rest_after_comment_end, trail}
 
 -- within a comment
-pub trail_inside : (s : List ℕ) → trail true s ≡ option_map_or (λ rest. trail false rest) (rest_after_comment s) (Some true)
+pub trail_inside : (s : List ℕ) → trail true s ≡ option_map_or (λ rest. trail false rest) (find_rest_after_comment_end s) (Some true)
 trail_inside [] = refl
 trail_inside (a ∷ []) = refl
 trail_inside (a ∷ b ∷ s) = go (a == 42 && b == 47) (trail_inside (b ∷ s))
   where
-    go : (t : Bool) → trail true (b ∷ s) ≡ option_map_or (λ rest. trail false rest) (rest_after_comment (b ∷ s)) (Some true)
-        → (if t then trail false s else trail true (b ∷ s)) ≡ option_map_or (λ rest. trail false rest) (if t then Some s else rest_after_comment (b ∷ s)) (Some true)
+    go : (t : Bool) → trail true (b ∷ s) ≡ option_map_or (λ rest. trail false rest) (find_rest_after_comment_end (b ∷ s)) (Some true)
+        → (if t then trail false s else trail true (b ∷ s)) ≡ option_map_or (λ rest. trail false rest) (if t then Some s else find_rest_after_comment_end (b ∷ s)) (Some true)
     go true more = refl
     go false more = more
 

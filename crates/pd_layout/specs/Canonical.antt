@@ -30,7 +30,7 @@ use Rattle.pd_print.specs.Answers.{answer_text}
 use Rattle.pd_print.specs.Numbers.{time_text}
 use Rattle.pd_print.specs.Packets.{event_text}
 use Rattle.pd_print.specs.declared.packet_texts.Direction.TheVariants.{Inbound, Outbound}
-use Rattle.pd_layout.specs.Traces.{is_trace}
+use Rattle.pd_layout.specs.Traces.{is_single_trace_line}
 
 -- octets are at the front of a line, and what follows them passes a test
 abbrev pub after_octets : List ℕ → (List ℕ → Bool) → List ℕ → Bool
@@ -39,32 +39,32 @@ after_octets octets test line = bytes_eq (take (length octets) line) octets && t
 -- ---- comments and empty lines
 
 -- the octets after the end of a comment in a line; None where the comment goes on in the next line
-abbrev pub rest_after_comment : List ℕ → Option (List ℕ)
-rest_after_comment [] = None
-rest_after_comment (a ∷ []) = None
-rest_after_comment (a ∷ b ∷ s) = if a == 42 && b == 47 then Some s else rest_after_comment (b ∷ s)
+abbrev pub find_rest_after_comment_end : List ℕ → Option (List ℕ)
+find_rest_after_comment_end [] = None
+find_rest_after_comment_end (a ∷ []) = None
+find_rest_after_comment_end (a ∷ b ∷ s) = if a == 42 && b == 47 then Some s else find_rest_after_comment_end (b ∷ s)
 
 -- a line within a comment, whose end nothing follows: whether the comment goes on in the next line; None where something does
-abbrev pub comment_goes_on : List ℕ → Option Bool
-comment_goes_on line = option_map_or (λ rest. if length rest == 0 then Some false else None) (rest_after_comment line) (Some true)
+abbrev pub open_comment_goes_on_if_nothing_after : List ℕ → Option Bool
+open_comment_goes_on_if_nothing_after line = option_map_or (λ rest. if length rest == 0 then Some false else None) (find_rest_after_comment_end line) (Some true)
 
 -- a comment alone in its line, after one blank where it looks like a line of a trace: whether it goes on in the next line;
 -- None where the line is no such comment
 abbrev pub comment : List ℕ → Option Bool
 comment line =
-    if after_octets (codes " ") is_trace line then Some false
-    else (if after_octets (codes "//") (λ _. not (is_trace line)) line then Some false
-    else (if after_octets (codes "/*") (λ _. true) line then comment_goes_on (drop 2 line) else None))
+    if after_octets (codes " ") is_single_trace_line line then Some false
+    else (if after_octets (codes "//") (λ _. not (is_single_trace_line line)) line then Some false
+    else (if after_octets (codes "/*") (λ _. true) line then open_comment_goes_on_if_nothing_after (drop 2 line) else None))
 
 -- a line in front of an event: an empty one or a comment; or a line within a comment
-abbrev pub comment_goes_on_after : Bool → List ℕ → Option Bool
-comment_goes_on_after true line = comment_goes_on line
-comment_goes_on_after false line = if length line == 0 then Some false else comment line
+abbrev pub comment_goes_on_if_empty_or_comment : Bool → List ℕ → Option Bool
+comment_goes_on_if_empty_or_comment true line = open_comment_goes_on_if_nothing_after line
+comment_goes_on_if_empty_or_comment false line = if length line == 0 then Some false else comment line
 
 -- lines in front of an event, the first of which may be within a comment
 abbrev pub lead : Bool → List (List ℕ) → Bool
 lead inside [] = not inside
-lead inside (line ∷ lines) = option_map_or (λ more. lead more lines) (comment_goes_on_after inside line) false
+lead inside (line ∷ lines) = option_map_or (λ more. lead more lines) (comment_goes_on_if_empty_or_comment inside line) false
 
 -- the rest of an event's line: comments, each after one blank, or the rest of one and further ones; whether the
 -- last of them goes on in the next line
@@ -123,14 +123,14 @@ answered_at answer text until place =
     passes_at (λ lines. after_octets (codes "= ") (after_octets answer (note_or_gap text until closing lines))) text until place
 
 -- a text that begins with a letter, a digit or `_`
-abbrev pub begins_word : List ℕ → Bool
-begins_word [] = false
-begins_word (b ∷ s) = is_ascii_alphanumeric b || b == 95
+abbrev pub starts_with_letter_digit_or_underscore : List ℕ → Bool
+starts_with_letter_digit_or_underscore [] = false
+starts_with_letter_digit_or_underscore (b ∷ s) = is_ascii_alphanumeric b || b == 95
 
 -- a call in some lines of a text: a word begins it, and its answer is at the first equals sign that is outside of brackets
 abbrev pub call_octets : List ℕ → List (List ℕ) → ℕ → ℕ → List ℕ → Bool
 call_octets answer text from until rest =
-    begins_word rest
+    starts_with_letter_digit_or_underscore rest
     && option_map_or (answered_at answer text until) (first_outside (is_symbol (sign "=")) 0 (items text (record { line = from; at = 0 }))) false
 
 -- the error of a name
@@ -165,40 +165,40 @@ action_line text from until time actions.Command lines line = false
 action_line text from until time actions.Code lines line = false
 
 -- where a header item ends: at the first blank
-abbrev pub item_end : List ℕ → ℕ
-item_end line = unwrap_or (position is_blank line) (length line)
+abbrev pub index_of_first_blank_or_end : List ℕ → ℕ
+index_of_first_blank_or_end line = unwrap_or (position is_blank line) (length line)
 
 -- a header item, and a gap
 abbrev pub item_line : List (List ℕ) → List ℕ → Bool
-item_line lines line = gap lines (drop (item_end line) line)
+item_line lines line = gap lines (drop (index_of_first_blank_or_end line) line)
 
 -- where the first of some events begins; without one the text's end
-abbrev pub first_event_line : List (List ℕ) → List Event → ℕ
-first_event_line text [] = length text
-first_event_line text (event ∷ others) = event.line - 1
+abbrev pub first_event_or_end_line_index : List (List ℕ) → List Event → ℕ
+first_event_or_end_line_index text [] = length text
+first_event_or_end_line_index text (event ∷ others) = event.line - 1
 
 -- each event begins at the start of its line, and its lines up to the next event are its own
 abbrev pub events_canonical : List (List ℕ) → List Event → Bool
 events_canonical text [] = true
 events_canonical text (event ∷ others) =
-    let until = first_event_line text others in
+    let until = first_event_or_end_line_index text others in
     first_line (action_line text event.line until event.time event.action) (lines_between text (event.line - 1) until) && events_canonical text others
 
 -- where the first of some header items begins, with these events after them
-abbrev pub first_item_line : List (List ℕ) → List Event → List HeaderItem → ℕ
-first_item_line text events [] = first_event_line text events
-first_item_line text events (item ∷ others) = item.line - 1
+abbrev pub first_item_event_or_end_line_index : List (List ℕ) → List Event → List HeaderItem → ℕ
+first_item_event_or_end_line_index text events [] = first_event_or_end_line_index text events
+first_item_event_or_end_line_index text events (item ∷ others) = item.line - 1
 
 -- the same of header items
 abbrev pub items_canonical : List (List ℕ) → List Event → List HeaderItem → Bool
 items_canonical text events [] = true
 items_canonical text events (item ∷ others) =
-    first_line item_line (lines_between text (item.line - 1) (first_item_line text events others)) && items_canonical text events others
+    first_line item_line (lines_between text (item.line - 1) (first_item_event_or_end_line_index text events others)) && items_canonical text events others
 
 -- a text with these header items and events is laid out as recordings are
 abbrev pub is_canonical : List (List ℕ) → List HeaderItem → List Event → Bool
 is_canonical text items events =
-    lead false (lines_between text 0 (first_item_line text events items)) && items_canonical text events items && events_canonical text events
+    lead false (lines_between text 0 (first_item_event_or_end_line_index text events items)) && items_canonical text events items && events_canonical text events
 
 -- a text is laid out as recordings are: so are the header items and events that it is read as
 abbrev pub IsCanonical : List (List ℕ) → Type 0

@@ -1,13 +1,13 @@
 //! Whether texts are laid out as recordings are.
 ghost use Rattle.std.specs.Prelude.{◌≡◌, ◌-◌, ◌≤◌, ◌<◌, IfOk, IfSome, length};
 ghost use Rattle.std.specs.List.{position};
-ghost use Rattle.pd_layout.specs.Canonical.{action_line, after_octets, lines_between, first_event_line, events_canonical, first_line, gap, is_canonical, item_end, item_line, first_item_line, items_canonical};
+ghost use Rattle.pd_layout.specs.Canonical.{action_line, after_octets, lines_between, first_event_or_end_line_index, events_canonical, first_line, gap, is_canonical, index_of_first_blank_or_end, item_line, first_item_event_or_end_line_index, items_canonical};
 ghost use Rattle.pd_lex.specs.Octets.{is_blank};
 ghost use Rattle.pd_print.specs.Packets.{event_text};
 ghost use Rattle.pd_layout.specs.Internal.{lines_of};
 
-use crate::canonical_calls::{has_prefix_and_gap, is_call_line};
-use crate::comments::{are_empty_or_comment_lines, is_gap};
+use crate::canonical_calls::{has_prefix_and_gap, is_line_canonical_call_and_gap};
+use crate::comments::{are_empty_or_comment_lines, are_rest_and_later_lines_only_comments};
 use crate::line_cursor::LineCursor;
 use pd_print::{Direction, put_event};
 use pd_script::{Action, Event, HeaderItem, Packet, Time};
@@ -26,9 +26,9 @@ pub fn is_canonical(
 ) -> Result<bool, AllocError>
     ensures { IfOk result (λ canonical. canonical ≡ is_canonical lines.now items.now events.now) }
 {
-    let first = first_item_line(lines, items, events);
+    let first = first_item_event_or_end_line_index(lines, items, events);
     if are_empty_or_comment_lines(false, LineCursor::new(lines, 0, first))
-        && are_items_canonical(lines, items, events)
+        && are_header_items_canonical(lines, items, events)
     {
         are_events_canonical(alloc, lines, events)
     } else {
@@ -37,18 +37,22 @@ pub fn is_canonical(
 }
 
 /// Where the first of some header items begins, with these events after them, counted from 0.
-fn first_item_line(lines: &Lines, items: &[HeaderItem], events: &[Event]) -> usize
-    ensures { result ≡ first_item_line lines.now events.now items.now }
+fn first_item_event_or_end_line_index(
+    lines: &Lines,
+    items: &[HeaderItem],
+    events: &[Event],
+) -> usize
+    ensures { result ≡ first_item_event_or_end_line_index lines.now events.now items.now }
 {
     match items {
         [item, ..] => item.line.saturating_sub(1),
-        [] => first_event_line(lines, events),
+        [] => first_event_or_end_line_index(lines, events),
     }
 }
 
 /// Where the first of some events begins, counted from 0; without one the text's end.
-fn first_event_line(lines: &Lines, events: &[Event]) -> usize
-    ensures { result ≡ first_event_line lines.now events.now }
+fn first_event_or_end_line_index(lines: &Lines, events: &[Event]) -> usize
+    ensures { result ≡ first_event_or_end_line_index lines.now events.now }
 {
     match events {
         [event, ..] => event.line.saturating_sub(1),
@@ -57,13 +61,17 @@ fn first_event_line(lines: &Lines, events: &[Event]) -> usize
 }
 
 /// Whether header items are laid out, with these events after them.
-fn are_items_canonical(lines: &Lines, items: &[HeaderItem], events: &[Event]) -> bool
+fn are_header_items_canonical(lines: &Lines, items: &[HeaderItem], events: &[Event]) -> bool
     ensures { result ≡ items_canonical lines.now events.now items.now }
 {
     let mut left = items;
     while let [item, others @ ..] = left {
-        let until = first_item_line(lines, others, events);
-        if !is_item_canonical(LineCursor::new(lines, item.line.saturating_sub(1), until)) {
+        let until = first_item_event_or_end_line_index(lines, others, events);
+        if !are_lines_header_item_and_gap(LineCursor::new(
+            lines,
+            item.line.saturating_sub(1),
+            until,
+        )) {
             return false;
         }
         left = others;
@@ -72,35 +80,39 @@ fn are_items_canonical(lines: &Lines, items: &[HeaderItem], events: &[Event]) ->
 }
 
 /// Whether lines are a header item and a gap.
-fn is_item_canonical(lines: LineCursor<'_>) -> bool
+fn are_lines_header_item_and_gap(lines: LineCursor<'_>) -> bool
     ensures { result ≡ first_line item_line (lines_of lines.entry) }
 {
     match lines.split_first() {
-        Some((line, after)) => is_gap(&line[item_end(line)..], after),
+        Some((line, after)) => are_rest_and_later_lines_only_comments(
+            &line[index_of_first_blank_or_end(line)..],
+            after,
+        ),
         None => false,
     }
 }
 
 /// Where a header item ends in its line: at the first blank.
-fn item_end(line: &[u8]) -> usize
-    ensures end { result ≡ item_end line.now }
+fn index_of_first_blank_or_end(line: &[u8]) -> usize
+    ensures end { result ≡ index_of_first_blank_or_end line.now }
     ensures within { result ≤ length line.now }
 {
-    match first_blank(line) {
+    match find_first_blank_octet(line) {
         Some(at) => at,
         None => line.len(),
     }
 }
 
 /// Where the first blank stands.
-fn first_blank(line: &[u8]) -> Option<usize>
+fn find_first_blank_octet(line: &[u8]) -> Option<usize>
     ensures place { result ≡ position is_blank line.now }
     ensures within { IfSome result (λ at. at < length line.now) }
 {
-    line.iter().position(|octet| is_blank(*octet))
+    line.iter()
+        .position(|octet| is_space_tab_cr_or_newline(*octet))
 }
 
-fn is_blank(octet: u8) -> bool
+fn is_space_tab_cr_or_newline(octet: u8) -> bool
     ensures { result ≡ is_blank octet }
 {
     matches!(octet, b' ' | b'\t' | b'\r' | b'\n')
@@ -113,8 +125,8 @@ fn are_events_canonical(alloc: Global, lines: &Lines, events: &[Event]) -> Resul
     let mut text = Vec::new(alloc);
     let mut left = events;
     while let [event, others @ ..] = left {
-        let until = first_event_line(lines, others);
-        if !is_event_canonical(&mut text, event, lines, until)? {
+        let until = first_event_or_end_line_index(lines, others);
+        if !is_event_and_gap_canonical(&mut text, event, lines, until)? {
             return Ok(false);
         }
         left = others;
@@ -123,7 +135,7 @@ fn are_events_canonical(alloc: Global, lines: &Lines, events: &[Event]) -> Resul
 }
 
 /// Whether the lines of an event up to another line are an event and a gap; its octets are written into a buffer.
-fn is_event_canonical(
+fn is_event_and_gap_canonical(
     text: &mut Vec<u8>,
     event: &Event,
     lines: &Lines,
@@ -136,7 +148,7 @@ fn is_event_canonical(
         return Ok(false);
     };
     match &event.action {
-        Action::Inbound(packet) => is_packet_line(
+        Action::Inbound(packet) => is_line_canonical_packet_and_gap(
             text,
             event.time,
             Direction::Inbound,
@@ -144,7 +156,7 @@ fn is_event_canonical(
             line,
             after,
         ),
-        Action::Outbound(packet) => is_packet_line(
+        Action::Outbound(packet) => is_line_canonical_packet_and_gap(
             text,
             event.time,
             Direction::Outbound,
@@ -152,13 +164,20 @@ fn is_event_canonical(
             line,
             after,
         ),
-        Action::Call(call) => is_call_line(text, lines, until, event, call.result, line),
+        Action::Call(call) => is_line_canonical_call_and_gap(
+            text,
+            lines,
+            until,
+            event,
+            call.result,
+            line,
+        ),
         Action::Command | Action::Code => Ok(false),
     }
 }
 
 /// Whether a line is, with lines after it, a packet that arrives or leaves at a time, in its one form, and a gap.
-fn is_packet_line(
+fn is_line_canonical_packet_and_gap(
     text: &mut Vec<u8>,
     time: Time,
     direction: Direction,

@@ -9,7 +9,7 @@ use pd_script::{
 };
 
 /// Whether two events agree in all but their lines.
-pub fn is_same_event(one: &Event, other: &Event) -> bool
+pub fn is_same_event_but_for_line(one: &Event, other: &Event) -> bool
     ensures { IsTrue result ↔ (without_line one.now ≡ without_line other.now) }
 {
     is_same_time(one.time, other.time)
@@ -51,7 +51,9 @@ fn is_same_action(one: &Action, other: &Action) -> bool
 {
     match (one, other) {
         (Action::Inbound(mine), Action::Inbound(its))
-        | (Action::Outbound(mine), Action::Outbound(its)) => is_same_packet(mine, its),
+        | (Action::Outbound(mine), Action::Outbound(its)) => is_same_packet_but_for_direction(
+            mine, its,
+        ),
         (Action::Call(mine), Action::Call(its)) => is_same_call(mine, its),
         (Action::Command, Action::Command) | (Action::Code, Action::Code) => true,
         _ => false,
@@ -170,7 +172,7 @@ fn is_same_error(one: ErrorName, other: ErrorName) -> bool
 }
 
 /// Whether two packets agree in every field.
-fn is_same_packet(one: &Packet, other: &Packet) -> bool
+fn is_same_packet_but_for_direction(one: &Packet, other: &Packet) -> bool
     ensures { IsTrue result ↔ (one.now ≡ other.now) }
 {
     is_same_flags(one.flags, other.flags)

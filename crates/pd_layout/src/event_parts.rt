@@ -52,7 +52,11 @@ impl EventParts {
     }
 
     /// Those of a packet that stands in a line from a place up to an octet, its time up to another.
-    pub(crate) fn of_packet(from: Place, time_to: usize, to: usize) -> EventParts {
+    pub(crate) fn of_packet_with_end_and_time_end(
+        from: Place,
+        time_to: usize,
+        to: usize,
+    ) -> EventParts {
         let up_to = |at: usize| TextSpan {
             from,
             to: Place {
@@ -75,16 +79,16 @@ impl EventParts {
 
     /// Reads the next token: a symbol by its octet, a word by a letter.
     #[inline(always)]
-    pub(crate) fn read_token(&mut self, octet: u8, token: TextSpan) {
+    pub(crate) fn extend_part_by_token(&mut self, octet: u8, token: TextSpan) {
         match self.current {
-            TextPart::Time => self.read_time_token(octet, token),
+            TextPart::Time => self.begin_packet_or_call_at_its_token(octet, token),
             TextPart::Packet => {}
-            TextPart::Call => self.read_call_token(octet, token),
+            TextPart::Call => self.count_brackets_and_end_call_at_equals(octet, token),
             TextPart::Equals => {
                 self.current = TextPart::Result;
                 self.result = token;
             }
-            TextPart::Result => self.read_result_token(octet, token),
+            TextPart::Result => self.begin_note_or_extend_result_by_token(octet, token),
             TextPart::Note => {
                 if let Some(note) = &mut self.note {
                     note.to = token.to;
@@ -95,18 +99,18 @@ impl EventParts {
     }
 
     /// Reads a token of a time, or the one after it.
-    fn read_time_token(&mut self, octet: u8, token: TextSpan) {
+    fn begin_packet_or_call_at_its_token(&mut self, octet: u8, token: TextSpan) {
         if matches!(octet, b'<' | b'>') {
             self.current = TextPart::Packet;
             self.time.to = self.event.to;
-        } else if is_letter(octet) {
+        } else if is_letter_or_underscore(octet) {
             self.current = TextPart::Call;
             self.call.from = token.from;
         }
     }
 
     /// Reads a token of a call before its result.
-    fn read_call_token(&mut self, octet: u8, token: TextSpan) {
+    fn count_brackets_and_end_call_at_equals(&mut self, octet: u8, token: TextSpan) {
         match octet {
             b'(' | b'[' | b'{' => self.depth = self.depth.saturating_add(1),
             b')' | b']' | b'}' => self.depth = self.depth.saturating_sub(1),
@@ -119,7 +123,7 @@ impl EventParts {
     }
 
     /// Reads a token of a result, or the one after it.
-    fn read_result_token(&mut self, octet: u8, token: TextSpan) {
+    fn begin_note_or_extend_result_by_token(&mut self, octet: u8, token: TextSpan) {
         if octet == b'(' {
             self.current = TextPart::Note;
             self.note = Some(token);
@@ -130,6 +134,6 @@ impl EventParts {
 }
 
 /// Whether an octet is a letter of a word, and no digit.
-pub(crate) fn is_letter(octet: u8) -> bool {
+pub(crate) fn is_letter_or_underscore(octet: u8) -> bool {
     octet == b'_' || octet.is_ascii_alphabetic()
 }

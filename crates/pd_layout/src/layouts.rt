@@ -1,8 +1,8 @@
 //! How a script stands in its text: the octets of its parts, with the comments and blank lines around them.
 use crate::event_parts::{EventParts, TextPart};
-use crate::single_line::parts_on_line;
-use crate::spans::{TextSpan, end_of_text, is_before};
-use crate::trivia::{TriviaPart, put_trivia};
+use crate::single_line::parts_if_event_is_plain_single_line;
+use crate::spans::{TextSpan, is_before, place_after_last_line};
+use crate::trivia::{TriviaPart, append_comments_and_blank_lines_of_gap};
 use pd_lex::{Lexed, Place, Token, TokenKind, next_token};
 use pd_text::{Lines, MAX_OCTETS};
 use std::alloc::{AllocError, Global};
@@ -23,7 +23,11 @@ pub struct Layout {
 
 impl Layout {
     /// With these parts, and no comment within the note or after it.
-    fn from_parts(alloc: Global, leading: Vec<TriviaPart>, parts: EventParts) -> Layout {
+    fn from_leading_and_parts(
+        alloc: Global,
+        leading: Vec<TriviaPart>,
+        parts: EventParts,
+    ) -> Layout {
         Layout {
             leading,
             parts,
@@ -33,21 +37,30 @@ impl Layout {
     }
 
     /// Reads the next token, with what is before it.
-    fn read_token(&mut self, lines: &Lines, token: &Token<'_>) -> Result<(), AllocError> {
+    fn add_token_and_trivia_before_it(
+        &mut self,
+        lines: &Lines,
+        token: &Token<'_>,
+    ) -> Result<(), AllocError> {
         let gap = TextSpan {
             from: self.parts.event.to,
             to: token.from,
         };
         match self.parts.current_part() {
             TextPart::Call => {}
-            TextPart::Note => put_trivia(&mut self.in_note, lines, gap)?,
-            _ => put_trivia(&mut self.leading, lines, gap)?,
+            TextPart::Note => append_comments_and_blank_lines_of_gap(
+                &mut self.in_note,
+                lines,
+                gap,
+            )?,
+            _ => append_comments_and_blank_lines_of_gap(&mut self.leading, lines, gap)?,
         }
         let text_span = TextSpan {
             from: token.from,
             to: token.to,
         };
-        self.parts.read_token(octet_for_parts(token), text_span);
+        self.parts
+            .extend_part_by_token(symbol_octet_or_letter_for_word(token), text_span);
         Ok(())
     }
 }
@@ -72,9 +85,9 @@ impl<'a> LayoutReader<'a> {
         lines: &'a Lines,
         place: Place,
     ) -> Result<LayoutReader<'a>, AllocError> {
-        let gap = gap_after(lines, place);
+        let gap = span_to_next_token_or_text_end(lines, place);
         let mut leading = Vec::new(alloc);
-        put_trivia(&mut leading, lines, gap)?;
+        append_comments_and_blank_lines_of_gap(&mut leading, lines, gap)?;
         Ok(LayoutReader {
             lines,
             next: gap.to,
@@ -87,13 +100,13 @@ impl<'a> LayoutReader<'a> {
     /// # Errors
     /// `AllocError` where a growth is refused.
     pub fn read_event(&mut self, alloc: Global, until: Place) -> Result<Layout, AllocError> {
-        match parts_on_line(self.lines, self.next, until) {
+        match parts_if_event_is_plain_single_line(self.lines, self.next, until) {
             Some(parts) => {
                 self.next = until;
                 let leading = replace(&mut self.leading, Vec::new(alloc));
-                Ok(Layout::from_parts(alloc, leading, parts))
+                Ok(Layout::from_leading_and_parts(alloc, leading, parts))
             }
-            None => self.read_part(alloc, until),
+            None => self.read_layout_by_tokens_until(alloc, until),
         }
     }
 
@@ -103,22 +116,30 @@ impl<'a> LayoutReader<'a> {
     /// `AllocError` where a growth is refused.
     pub fn read_header_item(&mut self, alloc: Global) -> Result<Layout, AllocError> {
         let after = match next_token(self.lines, self.next) {
-            Lexed::Token(token) => gap_after(self.lines, token.to).to,
+            Lexed::Token(token) => span_to_next_token_or_text_end(self.lines, token.to).to,
             Lexed::End | Lexed::Bad(_) => self.next,
         };
-        self.read_part(alloc, after)
+        self.read_layout_by_tokens_until(alloc, after)
     }
 
     /// Reads the tokens of the next part, which are before a place, that of the token after them.
-    fn read_part(&mut self, alloc: Global, until: Place) -> Result<Layout, AllocError> {
+    fn read_layout_by_tokens_until(
+        &mut self,
+        alloc: Global,
+        until: Place,
+    ) -> Result<Layout, AllocError> {
         let leading = replace(&mut self.leading, Vec::new(alloc));
         let mut place = replace(&mut self.next, until);
-        let mut layout = Layout::from_parts(alloc, leading, EventParts::empty_at(place));
+        let mut layout = Layout::from_leading_and_parts(
+            alloc,
+            leading,
+            EventParts::empty_at(place),
+        );
         // A text has no more tokens than octets.
         for _ in 0..MAX_OCTETS {
             match next_token(self.lines, place) {
                 Lexed::Token(token) if is_before(token.from, until) => {
-                    layout.read_token(self.lines, &token)?;
+                    layout.add_token_and_trivia_before_it(self.lines, &token)?;
                     place = token.to;
                 }
                 _ => break,
@@ -128,7 +149,7 @@ impl<'a> LayoutReader<'a> {
             from: place,
             to: until,
         };
-        self.read_trivia_after_part(&mut layout, gap)?;
+        self.split_trivia_into_trailing_and_leading(&mut layout, gap)?;
         Ok(layout)
     }
 
@@ -138,14 +159,14 @@ impl<'a> LayoutReader<'a> {
     }
 
     /// Reads what is after a part: what begins in its line stays there, where no further token is in that line.
-    fn read_trivia_after_part(
+    fn split_trivia_into_trailing_and_leading(
         &mut self,
         part: &mut Layout,
         gap: TextSpan,
     ) -> Result<(), AllocError> {
         let is_last = gap.to.line > gap.from.line;
         let mut pieces = Vec::new(*self.leading.allocator());
-        put_trivia(&mut pieces, self.lines, gap)?;
+        append_comments_and_blank_lines_of_gap(&mut pieces, self.lines, gap)?;
         for piece in &pieces {
             match piece {
                 TriviaPart::Comment(text_span) if is_last && text_span.from.line == gap.from.line =>
@@ -160,16 +181,16 @@ impl<'a> LayoutReader<'a> {
 }
 
 /// From a place to the next token, or to the end of the text.
-fn gap_after(lines: &Lines, place: Place) -> TextSpan {
+fn span_to_next_token_or_text_end(lines: &Lines, place: Place) -> TextSpan {
     let to = match next_token(lines, place) {
         Lexed::Token(token) => token.from,
-        Lexed::End | Lexed::Bad(_) => end_of_text(lines),
+        Lexed::End | Lexed::Bad(_) => place_after_last_line(lines),
     };
     TextSpan { from: place, to }
 }
 
 /// The octet by which a token is read: a symbol's octet, a letter of a word, 0 of any other.
-fn octet_for_parts(token: &Token<'_>) -> u8 {
+fn symbol_octet_or_letter_for_word(token: &Token<'_>) -> u8 {
     match token.kind {
         TokenKind::Symbol => token.symbol,
         TokenKind::Word => b'a',

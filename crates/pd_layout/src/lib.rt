@@ -3,21 +3,21 @@
 //!
 //! A `LayoutReader` goes through a text part by part, and gives the `Layout` of each header item
 //! and event: where its parts stand (`EventParts`), and the comments and blank lines before, within and
-//! after it (`TriviaPart`). `is_canonical_script` says whether a text is read as some script, and has the
-//! layout that recordings have. `is_trace` distinguishes the lines of a trace from comments.
+//! after it (`TriviaPart`). `is_canonical_text_of_header_and_events` says whether a text is read as some script, and has the
+//! layout that recordings have. `is_single_trace_line` distinguishes the lines of a trace from comments.
 //!
 //! A text has the layout of recordings if it `IsCanonical` (specs/Canonical.antt), whatever wrote it. That
 //! the answer of a call follows the first equals sign outside of brackets is the law
-//! `law_answers_stand_outside`. `LayoutReader` promises nothing.
+//! `law_equals_and_note_ends_outside_brackets`. `LayoutReader` promises nothing.
 //!
 //! Why it is so:
 //! - A `Layout` has places of the text, and no octets. Whoever writes the script anew copies from
 //!   the text (`put_text_span`), so what stays as it is stays to the octet.
 //! - How a layout is found isn't proved, which spares a proof of how comments are placed.
-//!   `pd_record` asks `is_canonical_script` of what it wrote instead, and that is proved.
+//!   `pd_record` asks `is_canonical_text_of_header_and_events` of what it wrote instead, and that is proved.
 //! - The module `alone` finds the parts of an event that is alone on its line by its octets, as
 //!   most events are; `layouts` reads all others token by token.
-//! - Events are compared without their lines (`are_same_events`), since these move when a script is
+//! - Events are compared without their lines (`are_same_events_but_for_lines`), since these move when a script is
 //!   written anew.
 #![tactic(auto)]
 
@@ -37,11 +37,11 @@ mod traces;
 mod trivia;
 
 pub use canonical::is_canonical;
-pub use equality::is_same_event;
+pub use equality::is_same_event_but_for_line;
 pub use event_parts::EventParts;
-pub use laws::law_answers_stand_outside;
+pub use laws::law_equals_and_note_ends_outside_brackets;
 pub use layouts::{Layout, LayoutReader};
-pub use script_check::{are_same_events, is_canonical_script};
+pub use script_check::{are_same_events_but_for_lines, is_canonical_text_of_header_and_events};
 pub use spans::{TextSpan, put_text_span};
-pub use traces::is_trace;
+pub use traces::is_single_trace_line;
 pub use trivia::TriviaPart;

@@ -5,16 +5,19 @@ ghost use Rattle.pd_lex.specs.Lexing.{items};
 ghost use Rattle.pd_script.specs.Cursor.{shown};
 ghost use Rattle.pd_script.specs.Items.{is_symbol};
 
-use pd_lex::{Lexed, Place, Token, TokenKind, lookahead_at, update_lookahead};
+use pd_lex::{
+    Lexed, Place, Token, TokenKind, next_token_and_its_end_line,
+    replace_lookahead_by_next_token_from,
+};
 use pd_text::Lines;
 
 /// Where the first of the tokens from a place on stands that is the symbol of an octet and leaves no bracket open.
-pub fn find_symbol_outside_brackets(lines: &Lines, from: Place, octet: u8) -> Option<Place>
+pub fn find_place_of_symbol_outside_brackets(lines: &Lines, from: Place, octet: u8) -> Option<Place>
     ensures { result ≡ first_outside (is_symbol octet) 0 (items lines.now from) }
 {
     // A look at a line shows that a text has few octets, and so few brackets.
     let _first = lines.line(1);
-    let mut lookahead = lookahead_at(lines, from);
+    let mut lookahead = next_token_and_its_end_line(lines, from);
     let mut depth = 0;
     'tokens: loop {
         let Lexed::Token(token) = lookahead.next else {
@@ -24,7 +27,7 @@ pub fn find_symbol_outside_brackets(lines: &Lines, from: Place, octet: u8) -> Op
         if is_symbol_outside(depth, &token, octet) {
             return Some(token.from);
         }
-        update_lookahead(lines, token.to, &mut lookahead);
+        replace_lookahead_by_next_token_from(lines, token.to, &mut lookahead);
     }
 }
 
@@ -33,9 +36,15 @@ fn depth_after_token(depth: usize, token: &Token<'_>) -> usize
     requires { depth + 1 < 2 ^ 64 }
     ensures { result ≡ depth_after_token depth (shown token.now) }
 {
-    if is_symbol(token, b'(') || is_symbol(token, b'[') || is_symbol(token, b'{') {
+    if is_symbol_with_octet(token, b'(')
+        || is_symbol_with_octet(token, b'[')
+        || is_symbol_with_octet(token, b'{')
+    {
         depth + 1
-    } else if is_symbol(token, b')') || is_symbol(token, b']') || is_symbol(token, b'}') {
+    } else if is_symbol_with_octet(token, b')')
+        || is_symbol_with_octet(token, b']')
+        || is_symbol_with_octet(token, b'}')
+    {
         depth.saturating_sub(1)
     } else {
         depth
@@ -46,11 +55,11 @@ fn depth_after_token(depth: usize, token: &Token<'_>) -> usize
 fn is_symbol_outside(depth: usize, token: &Token<'_>, octet: u8) -> bool
     ensures { result ≡ is_symbol octet (shown token.now) && depth == 0 }
 {
-    is_symbol(token, octet) && depth == 0
+    is_symbol_with_octet(token, octet) && depth == 0
 }
 
 /// The symbol of this octet.
-fn is_symbol(token: &Token<'_>, octet: u8) -> bool
+fn is_symbol_with_octet(token: &Token<'_>, octet: u8) -> bool
     ensures { result ≡ is_symbol octet (shown token.now) }
 {
     matches!(token.kind, TokenKind::Symbol) && token.symbol == octet

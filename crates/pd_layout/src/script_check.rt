@@ -4,7 +4,7 @@ ghost use Rattle.pd_layout.specs.ReadAs.{AreSameEvents, IsReadAs, IsScript, kind
 ghost use Rattle.pd_layout.specs.Canonical.{IsCanonical};
 
 use crate::canonical::is_canonical;
-use crate::equality::is_same_event;
+use crate::equality::is_same_event_but_for_line;
 use pd_script::{Event, Header, HeaderItem, HeaderKind, Parsed, parse};
 use pd_text::Lines;
 use std::alloc::{AllocError, Global};
@@ -14,7 +14,7 @@ use std::alloc::{AllocError, Global};
 ///
 /// # Errors
 /// `AllocError` where a growth is refused.
-pub fn is_canonical_script(
+pub fn is_canonical_text_of_header_and_events(
     alloc: Global,
     lines: &Lines,
     header: &Header,
@@ -23,7 +23,7 @@ pub fn is_canonical_script(
     ensures { IfOk result (λ canonical. IsTrue canonical ↔ IsReadAs header.now.items events.now lines.now × IsCanonical lines.now) }
 {
     let parsed = parse(alloc, lines)?;
-    if has_header_and_events(&parsed, header, events) {
+    if is_faultless_parse_of_header_and_events(&parsed, header, events) {
         is_canonical(
             alloc,
             lines,
@@ -36,12 +36,16 @@ pub fn is_canonical_script(
 }
 
 /// Whether what was read is a script with such a header and such events, but for their lines.
-fn has_header_and_events(parsed: &Parsed, header: &Header, events: &[Event]) -> bool
+fn is_faultless_parse_of_header_and_events(
+    parsed: &Parsed,
+    header: &Header,
+    events: &[Event],
+) -> bool
     ensures { IsTrue result ↔ IsScript header.now.items events.now parsed.now }
 {
     parsed.fault.is_none()
         && is_same_header(parsed.header.as_slice(), header.as_slice())
-        && are_same_events(parsed.events.as_slice(), events)
+        && are_same_events_but_for_lines(parsed.events.as_slice(), events)
 }
 
 /// Whether both say the same in the same order.
@@ -49,14 +53,13 @@ fn is_same_header(one: &[HeaderItem], other: &[HeaderItem]) -> bool
     ensures { IsTrue result ↔ (kinds_of one.now ≡ kinds_of other.now) }
 {
     one.len() == other.len()
-        && one
-            .iter()
-            .zip(other)
-            .all(|(mine, its)| is_same_header_kind(mine.kind, its.kind))
+        && one.iter().zip(other).all(|(mine, its)| is_same_header_kind_and_tolerance(
+            mine.kind, its.kind,
+        ))
 }
 
 /// Whether both are the same kind with the same number.
-fn is_same_header_kind(one: HeaderKind, other: HeaderKind) -> bool
+fn is_same_header_kind_and_tolerance(one: HeaderKind, other: HeaderKind) -> bool
     ensures { IsTrue result ↔ (one ≡ other) }
 {
     match (one, other) {
@@ -68,12 +71,12 @@ fn is_same_header_kind(one: HeaderKind, other: HeaderKind) -> bool
 }
 
 /// Whether both are the same events in the same order, but for their lines.
-pub fn are_same_events(one: &[Event], other: &[Event]) -> bool
+pub fn are_same_events_but_for_lines(one: &[Event], other: &[Event]) -> bool
     ensures { IsTrue result ↔ AreSameEvents one.now other.now }
 {
     one.len() == other.len()
         && one
             .iter()
             .zip(other)
-            .all(|(mine, its)| is_same_event(mine, its))
+            .all(|(mine, its)| is_same_event_but_for_line(mine, its))
 }

@@ -18,7 +18,7 @@ pub fn is_before(place: Place, other: Place) -> bool {
 }
 
 /// The place after the last line of a text.
-pub fn end_of_text(lines: &Lines) -> Place {
+pub fn place_after_last_line(lines: &Lines) -> Place {
     Place::line_start(lines.len() + 1)
 }
 

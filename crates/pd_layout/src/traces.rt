@@ -1,42 +1,43 @@
 //! The lines of a trace, which say when events happened and in which state the sender was then.
 ghost use Rattle.std.specs.Prelude.{◌≡◌, ◌<◌, length, IfSome};
-ghost use Rattle.pd_layout.specs.Traces.{is_trace, is_trace_body_at, is_state_and_facts_at, first_space, is_fixed_seconds, is_fraction, are_digits, is_state_name, is_fact, is_sequence_or_window_fact, is_count_fact, is_other_fact, are_facts, is_named_value, is_fact_value, are_value_octets};
+ghost use Rattle.pd_layout.specs.Traces.{is_single_trace_line, is_trace_body_at, is_state_and_facts_at, find_first_space, is_seconds_with_six_decimals, is_point_and_digits, are_digits, is_tcp_state_name_but_syn_sent, is_fact, is_sequence_or_window_fact, is_count_fact, is_connection_timer_or_recovery_fact, are_facts, is_value_after_name_with_colon, is_nonempty_letters_digits_and_points, are_letters_digits_and_points};
 
 /// The opening of a line of a trace.
 const OPENING: &[u8] = b"//= at ";
 
 /// Whether a line is one of a trace: `//= at`, seconds with six decimals, the name of a state, and facts, each with a
 /// colon and its value, with one blank before each word.
-pub fn is_trace(line: &[u8]) -> bool
-    ensures { result ≡ is_trace line.now }
+pub fn is_single_trace_line(line: &[u8]) -> bool
+    ensures { result ≡ is_single_trace_line line.now }
 {
     // The first octet shows of most lines that they are none.
     let [b'/', ..] = line else {
         return false;
     };
     match line.strip_prefix(OPENING) {
-        Some(trace_body) => is_trace_body(trace_body),
+        Some(trace_body) => is_moment_state_and_facts(trace_body),
         None => false,
     }
 }
 
 /// Whether these are a moment, a state and facts.
-fn is_trace_body(words: &[u8]) -> bool
-    ensures { result ≡ is_trace_body_at (first_space words.now) words.now }
+fn is_moment_state_and_facts(words: &[u8]) -> bool
+    ensures { result ≡ is_trace_body_at (find_first_space words.now) words.now }
 {
-    match first_space(words) {
-        Some(at) => is_fixed_seconds(&words[..at]) && is_state_and_facts(&words[at + 1..]),
+    match find_first_space(words) {
+        Some(at) => is_seconds_with_six_decimals(&words[..at])
+            && is_state_and_facts(&words[at + 1..]),
         None => false,
     }
 }
 
 /// Whether these are a state and facts.
 fn is_state_and_facts(words: &[u8]) -> bool
-    ensures { result ≡ is_state_and_facts_at (first_space words.now) words.now }
+    ensures { result ≡ is_state_and_facts_at (find_first_space words.now) words.now }
 {
-    match first_space(words) {
-        Some(at) => is_state_name(&words[..at]) && are_facts(&words[at + 1..]),
-        None => is_state_name(words),
+    match find_first_space(words) {
+        Some(at) => is_tcp_state_name_but_syn_sent(&words[..at]) && are_facts(&words[at + 1..]),
+        None => is_tcp_state_name_but_syn_sent(words),
     }
 }
 
@@ -50,24 +51,24 @@ fn are_facts(words: &[u8]) -> bool
 }
 
 /// Where the first blank stands.
-fn first_space(octets: &[u8]) -> Option<usize>
-    ensures place { result ≡ first_space octets.now }
+fn find_first_space(octets: &[u8]) -> Option<usize>
+    ensures place { result ≡ find_first_space octets.now }
     ensures within { IfSome result (λ at. at < length octets.now) }
 {
     octets.iter().position(|octet| *octet == b' ')
 }
 
 /// Whether a word is seconds with six decimals.
-fn is_fixed_seconds(word: &[u8]) -> bool
-    ensures { result ≡ is_fixed_seconds word.now }
+fn is_seconds_with_six_decimals(word: &[u8]) -> bool
+    ensures { result ≡ is_seconds_with_six_decimals word.now }
 {
     let point = word.len().saturating_sub(7);
-    point > 0 && are_digits(&word[..point]) && is_fraction(&word[point..])
+    point > 0 && are_digits(&word[..point]) && is_point_and_digits(&word[point..])
 }
 
 /// Whether a word is a point and digits.
-fn is_fraction(word: &[u8]) -> bool
-    ensures { result ≡ is_fraction word.now }
+fn is_point_and_digits(word: &[u8]) -> bool
+    ensures { result ≡ is_point_and_digits word.now }
 {
     match word {
         [b'.', digits @ ..] => are_digits(digits),
@@ -82,8 +83,8 @@ fn are_digits(word: &[u8]) -> bool
 }
 
 /// Whether a word is the name of a state.
-fn is_state_name(word: &[u8]) -> bool
-    ensures { result ≡ is_state_name word.now }
+fn is_tcp_state_name_but_syn_sent(word: &[u8]) -> bool
+    ensures { result ≡ is_tcp_state_name_but_syn_sent word.now }
 {
     word == b"CLOSED".as_slice()
         || word == b"LISTEN".as_slice()
@@ -101,64 +102,66 @@ fn is_state_name(word: &[u8]) -> bool
 fn is_fact(word: &[u8]) -> bool
     ensures { result ≡ is_fact word.now }
 {
-    is_sequence_or_window_fact(word) || is_count_fact(word) || is_other_fact(word)
+    is_sequence_or_window_fact(word)
+        || is_count_fact(word)
+        || is_connection_timer_or_recovery_fact(word)
 }
 
 /// Whether a word is the name of an octet number or a window, a colon and a value.
 fn is_sequence_or_window_fact(word: &[u8]) -> bool
     ensures { result ≡ is_sequence_or_window_fact word.now }
 {
-    is_named_value(word, b"una:")
-        || is_named_value(word, b"next:")
-        || is_named_value(word, b"top:")
-        || is_named_value(word, b"end:")
-        || is_named_value(word, b"cwnd:")
-        || is_named_value(word, b"ssthresh:")
-        || is_named_value(word, b"rwnd:")
+    is_value_after_name_with_colon(word, b"una:")
+        || is_value_after_name_with_colon(word, b"next:")
+        || is_value_after_name_with_colon(word, b"top:")
+        || is_value_after_name_with_colon(word, b"end:")
+        || is_value_after_name_with_colon(word, b"cwnd:")
+        || is_value_after_name_with_colon(word, b"ssthresh:")
+        || is_value_after_name_with_colon(word, b"rwnd:")
 }
 
 /// Whether a word is the name of a count, a colon and a value.
 fn is_count_fact(word: &[u8]) -> bool
     ensures { result ≡ is_count_fact word.now }
 {
-    is_named_value(word, b"FlightSize:")
-        || is_named_value(word, b"pipe:")
-        || is_named_value(word, b"prr_delivered:")
-        || is_named_value(word, b"prr_out:")
-        || is_named_value(word, b"DupAcks:")
+    is_value_after_name_with_colon(word, b"FlightSize:")
+        || is_value_after_name_with_colon(word, b"pipe:")
+        || is_value_after_name_with_colon(word, b"prr_delivered:")
+        || is_value_after_name_with_colon(word, b"prr_out:")
+        || is_value_after_name_with_colon(word, b"DupAcks:")
 }
 
 /// Whether a word is the name of another fact, a colon and a value.
-fn is_other_fact(word: &[u8]) -> bool
-    ensures { result ≡ is_other_fact word.now }
+fn is_connection_timer_or_recovery_fact(word: &[u8]) -> bool
+    ensures { result ≡ is_connection_timer_or_recovery_fact word.now }
 {
-    is_named_value(word, b"connection:")
-        || is_named_value(word, b"RTO:")
-        || is_named_value(word, b"expiry:")
-        || is_named_value(word, b"recovery:")
-        || is_named_value(word, b"sent_by:")
+    is_value_after_name_with_colon(word, b"connection:")
+        || is_value_after_name_with_colon(word, b"RTO:")
+        || is_value_after_name_with_colon(word, b"expiry:")
+        || is_value_after_name_with_colon(word, b"recovery:")
+        || is_value_after_name_with_colon(word, b"sent_by:")
 }
 
 /// Whether a word is this name and a value.
-fn is_named_value(word: &[u8], name: &[u8]) -> bool
-    ensures { result ≡ is_named_value word.now name.now }
+fn is_value_after_name_with_colon(word: &[u8], name: &[u8]) -> bool
+    ensures { result ≡ is_value_after_name_with_colon word.now name.now }
 {
     match word.strip_prefix(name) {
-        Some(value) => is_fact_value(value),
+        Some(value) => is_nonempty_letters_digits_and_points(value),
         None => false,
     }
 }
 
 /// Whether a word is letters, digits and points, at least one.
-fn is_fact_value(word: &[u8]) -> bool
-    ensures { result ≡ is_fact_value word.now }
+fn is_nonempty_letters_digits_and_points(word: &[u8]) -> bool
+    ensures { result ≡ is_nonempty_letters_digits_and_points word.now }
 {
-    word.len() > 0 && are_value_octets(word)
+    word.len() > 0 && are_letters_digits_and_points(word)
 }
 
 /// Whether a word is letters, digits and points.
-fn are_value_octets(word: &[u8]) -> bool
-    ensures { result ≡ are_value_octets word.now }
+fn are_letters_digits_and_points(word: &[u8]) -> bool
+    ensures { result ≡ are_letters_digits_and_points word.now }
 {
     word.iter()
         .all(|octet| octet.is_ascii_alphanumeric() || *octet == b'.')

@@ -18,7 +18,7 @@ pub enum TriviaPart {
 ///
 /// # Errors
 /// `AllocError` where a growth is refused.
-pub fn put_trivia(
+pub fn append_comments_and_blank_lines_of_gap(
     pieces: &mut Vec<TriviaPart>,
     lines: &Lines,
     gap: TextSpan,

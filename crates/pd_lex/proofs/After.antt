@@ -2,7 +2,7 @@
 use Rattle.std.proofs.Common.{◌≡◌, ℕ, zero, suc, ◌<◌, ◌≤◌, true, List, ◌∷◌, length, sym, ap, ◌∙◌, arith, refl}
 use Rattle.std.specs.List.{list_all}
 use Rattle.std.proofs.lemmas.List.{nil_from_length}
-use Rattle.pd_text.specs.Text.{is_line}
+use Rattle.pd_text.specs.Text.{has_no_newline}
 use Rattle.pd_lex.specs.declared.token.Place.{Place}
 use Rattle.pd_lex.specs.Places.{clamped_place, octets_from, place_after, before, IsPlace}
 use Rattle.pd_lex.specs.Pieces.{Front, nothing, gap, token, stray, front}
@@ -14,7 +14,7 @@ use Rattle.pd_lex.proofs.Items.{items_from, items_past, items_at_end, items_at_s
 use Rattle.pd_lex.proofs.Order.{by_line, left_after, gap_rest, items_after_gap, items_after_token, nothing_left}
 use Rattle.pd_lex.proofs.Texts.{clamped_is_place}
 
-module _ (lines : List (List ℕ)) (plain : list_all is_line lines ≡ true) where
+module _ (lines : List (List ℕ)) (plain : list_all has_no_newline lines ≡ true) where
   on_by : (k : ℕ) (p : Place) → IsPlace lines p → length (octets_from lines p) ≤ suc k → ((q : Place) → IsPlace lines q → length (octets_from lines q) ≤ k → GoOn lines (items lines q)) → (f : Front) → front (octets_from lines p) ≡ f → GoOn lines (items lines p)
   on_by k p h le ih nothing e = rw (items_at_end lines plain p h (nothing_left (octets_from lines p) e)) (λ x rest is. absurd cc)
   on_by k p h le ih (gap rest) e =
@@ -41,7 +41,7 @@ module _ (lines : List (List ℕ)) (plain : list_all is_line lines ≡ true) whe
   on_within zero p h le = rw (items_at_end lines plain p h (nil_from_length (octets_from lines p) (omega arith))) (λ x rest is. absurd cc)
   on_within (suc k) p h le = on_by k p h le (on_within k) (front (octets_from lines p)) refl
 
-pub go_on : (lines : List (List ℕ)) (p : Place) → list_all is_line lines ≡ true → GoOn lines (items lines p)
+pub go_on : (lines : List (List ℕ)) (p : Place) → list_all has_no_newline lines ≡ true → GoOn lines (items lines p)
 go_on lines p plain = by_line (length lines) p.line (GoOn lines (items lines p)) past within
   where
     past : length lines < p.line → GoOn lines (items lines p)

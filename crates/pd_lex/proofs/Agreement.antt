@@ -3,7 +3,7 @@ use Rattle.std.proofs.Common.{◌≡◌, ℕ, zero, suc, ◌-◌, ◌<◌, ◌�
 use Rattle.std.specs.List.{list_all}
 use Rattle.std.proofs.lemmas.List.{drop-append-le, length-drop, append_cancel_right, get_or_append_left, nil_from_length, take-append-drop, length-take-le}
 use Rattle.std.proofs.lemmas.Bool.Decides.{nat_tests}
-use Rattle.pd_text.specs.Text.{is_line}
+use Rattle.pd_text.specs.Text.{has_no_newline}
 use Rattle.pd_lex.specs.declared.token.Place.{Place}
 use Rattle.pd_lex.specs.declared.scan.Piece.{Piece}
 use Rattle.pd_lex.specs.declared.scan.Piece.TheVariants.{Blank, Whole, Open, Stray}
@@ -111,7 +111,7 @@ octets_then : (xs ys : List (List ℕ)) (p : Place) → IsPlace xs p → p.line 
 octets_then xs ys p h le c e = octets_in_front xs ys p h le ∙ rw e (append_assoc c (10 ∷ []) (joined ys))
 
 -- two texts with the same first lines
-module _ (cs xs ys : List (List ℕ)) (plain_x : list_all is_line (cs ++ xs) ≡ true) (plain_y : list_all is_line (cs ++ ys) ≡ true) where
+module _ (cs xs ys : List (List ℕ)) (plain_x : list_all has_no_newline (cs ++ xs) ≡ true) (plain_y : list_all has_no_newline (cs ++ ys) ≡ true) where
   cut_same : (c text r : List ℕ) → c ++ 10 ∷ joined xs ≡ text ++ (r ++ 10 ∷ joined xs) → c ≡ text ++ r
   cut_same c text r e = append_cancel_right c (text ++ r) (10 ∷ joined xs) (e ∙ sym (append_assoc text r (10 ∷ joined xs)))
 
@@ -212,7 +212,7 @@ module _ (cs xs ys : List (List ℕ)) (plain_x : list_all is_line (cs ++ xs) ≡
           in
           rw is (by_line (length cs) q.line (AgreeTo (length cs) (items (cs ++ xs) q) (items (cs ++ ys) p)) beyond near)
 
-pub agree : (lines others : List (List ℕ)) (same : ℕ) (p : Place) → list_all is_line lines ≡ true → list_all is_line others ≡ true → same ≤ length lines → take same lines ≡ take same others → AgreeTo same (items lines p) (items others p)
+pub agree : (lines others : List (List ℕ)) (same : ℕ) (p : Place) → list_all has_no_newline lines ≡ true → list_all has_no_newline others ≡ true → same ≤ length lines → take same lines ≡ take same others → AgreeTo same (items lines p) (items others p)
 agree lines others same p plain_x plain_y le e =
     let cs = take same lines in
     let wx : cs ++ drop same lines ≡ lines = take-append-drop same lines in

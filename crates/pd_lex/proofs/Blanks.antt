@@ -5,7 +5,7 @@ use Rattle.std.proofs.lemmas.List.{drop-drop, drop_all, length-drop}
 use Rattle.std.proofs.lemmas.List.Sums.{prefix_len-le-length}
 use Rattle.std.proofs.lemmas.Bool.{cases_lt}
 use Rattle.std.proofs.lemmas.Bool.Decides.{nat_tests}
-use Rattle.pd_text.specs.Text.{is_line}
+use Rattle.pd_text.specs.Text.{has_no_newline}
 use Rattle.pd_lex.specs.declared.token.Place.{Place}
 use Rattle.pd_lex.specs.Octets.{is_blank}
 use Rattle.pd_lex.specs.Places.{first_place, line_at, clamped_place, octets_from, IsPlace}
@@ -47,7 +47,7 @@ stands lines p q h e =
 pub first_stands : (lines : List (List ℕ)) (p : Place) → p.line ≡ 0 → GoesOn lines p first_place
 first_stands lines p e = stands lines p first_place (record { from_one = omega arith; within = omega arith; at = omega arith }) (sym (clamped_first lines p e))
 
-module _ (lines : List (List ℕ)) (plain : list_all is_line lines ≡ true) where
+module _ (lines : List (List ℕ)) (plain : list_all has_no_newline lines ≡ true) where
   pub then_gap : (p q r : Place) → GoesOn lines p q → IsPlace lines r → front (octets_from lines q) ≡ gap (octets_from lines r) → GoesOn lines p r
   then_gap p q r on h e = record {
     place = h;
@@ -82,7 +82,7 @@ module _ (lines : List (List ℕ)) (plain : list_all is_line lines ≡ true) whe
           let none : prefix_len is_blank (b ∷ s) ≡ 0 = rw h refl in
           none_on p q n on (omega (arith, is, none))
 
-module _ (lines : List (List ℕ)) (plain : list_all is_line lines ≡ true) (p : Place) (one : 1 ≤ p.line) (le : p.line ≤ length lines) where
+module _ (lines : List (List ℕ)) (plain : list_all has_no_newline lines ≡ true) (p : Place) (one : 1 ≤ p.line) (le : p.line ≤ length lines) where
   from_place : p.at ≤ length (line_at lines p.line) → GoesOn lines p p
   from_place fits =
       let h : IsPlace lines p = record { from_one = one; within = omega arith; at = fits } in

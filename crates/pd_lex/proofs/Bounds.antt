@@ -10,7 +10,7 @@ use Rattle.pd_lex.specs.declared.scan.Piece.TheVariants.{Blank, Whole, Open, Str
 use Rattle.pd_lex.specs.declared.scan.Opener.{Opener}
 use Rattle.pd_lex.specs.declared.scan.Opener.TheVariants.{Comment, Quote, Backquote, Brace}
 use Rattle.pd_lex.specs.Octets.{is_digit, is_hex_digit, is_word, is_blank, is_nonblank, is_not_newline, is_no_backquote, is_printable}
-use Rattle.pd_lex.specs.Pieces.{is_hex_number, fraction_len, option_value_len, word_piece, point_piece, dash_piece, piece, rest_after_pair, rest_after_quote, rest_after_backquote, rest_after_closing, opener_text, opener_len, Front, nothing, gap, token, stray, closed, parted, front}
+use Rattle.pd_lex.specs.Pieces.{is_hex_number, fraction_len, len_of_equals_and_option_value, word_piece, point_piece, dash_piece, piece, find_rest_after_octet_pair, rest_after_unescaped_quote, rest_after_backquote, rest_after_closing, opener_text, opener_len, Front, nothing, gap, token, stray, closed, parted, front}
 use Rattle.pd_lex.specs.Scanned.{piece_len}
 use Rattle.pd_lex.specs.Spellings.{IsValue, IsQuoted, empty, plain, escaped, HasNo, IsSpelled, IsPiece, IsOpened, Fits}
 use Rattle.pd_lex.proofs.Endings.{and-false}
@@ -148,7 +148,7 @@ unfolding piece point_piece
 dots_taken more = front_takes 46 (46 ∷ 46 ∷ more) 3 (whole_long 3 3 Dots (omega arith))
 
 -- options
-value_at_least : (value more : List ℕ) → list_all is_nonblank value ≡ true → length value + 1 ≤ option_value_len (61 ∷ value ++ more)
+value_at_least : (value more : List ℕ) → list_all is_nonblank value ≡ true → length value + 1 ≤ len_of_equals_and_option_value (61 ∷ value ++ more)
 value_at_least value more all = let run = run_at_least is_nonblank value more all in omega arith
 
 name_long : (name more : List ℕ) → 0 < length name → list_all is_word name ≡ true → IsLong (2 + length name) (dash_piece (45 ∷ 45 ∷ name ++ more))
@@ -156,7 +156,7 @@ unfolding dash_piece
 name_long name more some all =
     let run = run_at_least is_word name more all in
     let n = prefix_len is_word (name ++ more) in
-    long_either (2 + length name) (nat_lt 0 n) (Whole Opt (2 + n + option_value_len (drop n (name ++ more)))) (Whole Symbol 1) (λ _. whole_long (2 + length name) (2 + n + option_value_len (drop n (name ++ more))) Opt (omega arith)) (λ h. absurd (none_left n h run))
+    long_either (2 + length name) (nat_lt 0 n) (Whole Opt (2 + n + len_of_equals_and_option_value (drop n (name ++ more)))) (Whole Symbol 1) (λ _. whole_long (2 + length name) (2 + n + len_of_equals_and_option_value (drop n (name ++ more))) Opt (omega arith)) (λ h. absurd (none_left n h run))
   where
     none_left : (n : ℕ) → nat_lt 0 n ≡ false → length name ≤ n → ⊥
     none_left n h le = grind (arith, nat_tests)
@@ -166,7 +166,7 @@ unfolding dash_piece
 value_long name value more some all solid =
     let n = run_up_to is_word name 61 (value ++ more) all refl in
     let le = value_at_least value more solid in
-    let v = option_value_len (61 ∷ value ++ more) in
+    let v = len_of_equals_and_option_value (61 ∷ value ++ more) in
     rw (n, drop_at name (61 ∷ value ++ more) (length name) refl) (long_either (2 + (length name + (1 + length value))) (nat_lt 0 (length name)) (Whole Opt (2 + length name + v)) (Whole Symbol 1) (λ _. whole_long (2 + (length name + (1 + length value))) (2 + length name + v) Opt (omega arith)) (λ h. absurd (none_left (length name) h some)))
   where
     none_left : (n : ℕ) → nat_lt 0 n ≡ false → 0 < n → ⊥
@@ -191,18 +191,18 @@ closed_taken b s o n r is e le = rw (is, e) (both o)
     both Backquote = le
     both Brace = le
 
-quote_ends_here : (more : List ℕ) → rest_after_quote (34 ∷ more) ≡ Some more
+quote_ends_here : (more : List ℕ) → rest_after_unescaped_quote (34 ∷ more) ≡ Some more
 quote_ends_here [] = refl
 quote_ends_here (c ∷ more) = refl
 
 differs : (a b : ℕ) → a ≢ b → (a == b) ≡ false
 differs a b h = grind (arith, nat_tests)
 
-plain_octet : (b : ℕ) (s more : List ℕ) → b ≢ 34 → b ≢ 92 → rest_after_quote (b ∷ (s ++ 34 ∷ more)) ≡ rest_after_quote (s ++ 34 ∷ more)
+plain_octet : (b : ℕ) (s more : List ℕ) → b ≢ 34 → b ≢ 92 → rest_after_unescaped_quote (b ∷ (s ++ 34 ∷ more)) ≡ rest_after_unescaped_quote (s ++ 34 ∷ more)
 plain_octet b [] more h g = rw (differs b 34 h, differs b 92 g) refl
 plain_octet b (c ∷ s) more h g = rw (differs b 34 h, differs b 92 g) refl
 
-quoted_ends : {body : List ℕ} (more : List ℕ) → IsQuoted body → rest_after_quote (body ++ 34 ∷ more) ≡ Some more
+quoted_ends : {body : List ℕ} (more : List ℕ) → IsQuoted body → rest_after_unescaped_quote (body ++ 34 ∷ more) ≡ Some more
 quoted_ends more empty = quote_ends_here more
 quoted_ends more (plain {b} {text} h g rest) = plain_octet b text more h g ∙ quoted_ends more rest
 quoted_ends more (escaped rest) = quoted_ends more rest
@@ -235,7 +235,7 @@ no_pair_here x y b (c ∷ body) more apart none = pair_test x y b c (λ e. none 
 HasNo-tail : (x y b : ℕ) (body : List ℕ) → HasNo (x ∷ y ∷ []) (b ∷ body) → HasNo (x ∷ y ∷ []) body
 HasNo-tail x y b body none front back e = none (b ∷ front) back (ap (λ (l : List ℕ). b ∷ l) e)
 
-pair_ends : (x y : ℕ) (body more : List ℕ) → eqb x y ≡ false → HasNo (x ∷ y ∷ []) body → rest_after_pair x y (body ++ x ∷ y ∷ more) ≡ Some more
+pair_ends : (x y : ℕ) (body more : List ℕ) → eqb x y ≡ false → HasNo (x ∷ y ∷ []) body → find_rest_after_octet_pair x y (body ++ x ∷ y ∷ more) ≡ Some more
 pair_ends x y [] more apart none = rw (same_octet x, same_octet y) refl
 pair_ends x y (b ∷ body) more apart none = rw (no_pair_here x y b body more apart none) (pair_ends x y body more apart (HasNo-tail x y b body none))
 
@@ -297,7 +297,7 @@ dash_some : (s : List ℕ) → IsLong 1 (dash_piece s)
 unfolding dash_piece
 dash_some s =
     let n = prefix_len is_word (drop 2 s) in
-    long_either 1 (starts_with nat_eq s (45 ∷ 45 ∷ []) && nat_lt 0 n) (Whole Opt (2 + n + option_value_len (drop n (drop 2 s)))) (Whole Symbol 1) (λ _. whole_long 1 (2 + n + option_value_len (drop n (drop 2 s))) Opt (omega arith)) (λ _. whole_long 1 1 Symbol (omega arith))
+    long_either 1 (starts_with nat_eq s (45 ∷ 45 ∷ []) && nat_lt 0 n) (Whole Opt (2 + n + len_of_equals_and_option_value (drop n (drop 2 s)))) (Whole Symbol 1) (λ _. whole_long 1 (2 + n + len_of_equals_and_option_value (drop n (drop 2 s))) Opt (omega arith)) (λ _. whole_long 1 1 Symbol (omega arith))
 
 symbol_long : (b : ℕ) (s : List ℕ) (p : Piece) → is_printable b ≡ true → ¬ IsOpened (b ∷ s) → IsWithin (b ∷ s) p → IsShaped b s p → IsLong 1 p
 symbol_long b s p prints closed_here w (at_blank h) = blank_long 1 1 (omega arith)

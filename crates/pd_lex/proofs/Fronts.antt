@@ -10,7 +10,7 @@ use Rattle.pd_lex.specs.declared.scan.Piece.TheVariants.{Blank, Whole, Open, Str
 use Rattle.pd_lex.specs.declared.scan.Opener.{Opener}
 use Rattle.pd_lex.specs.declared.scan.Opener.TheVariants.{Comment, Quote, Backquote, Brace}
 use Rattle.pd_lex.specs.Octets.{is_digit, is_word, is_blank, is_nonblank, is_not_newline, is_printable}
-use Rattle.pd_lex.specs.Pieces.{is_hex_number, fraction_len, option_value_len, word_piece, point_piece, dash_piece, piece, rest_after_closing, opener_text, opener_len, Front, nothing, gap, token, stray, closed, parted, front}
+use Rattle.pd_lex.specs.Pieces.{is_hex_number, fraction_len, len_of_equals_and_option_value, word_piece, point_piece, dash_piece, piece, rest_after_closing, opener_text, opener_len, Front, nothing, gap, token, stray, closed, parted, front}
 use Rattle.pd_lex.specs.Places.{before}
 use Rattle.pd_lex.specs.Scanned.{piece_len}
 use Rattle.pd_lex.proofs.Endings.{end_suffix}
@@ -48,7 +48,7 @@ pub fraction_fits : (s : List ℕ) → fraction_len s ≤ length s
 fraction_fits [] = omega arith
 fraction_fits (b ∷ s) = let run = prefix_len-le-length is_digit s in grind (arith, nat_tests)
 
-pub value_fits : (s : List ℕ) → option_value_len s ≤ length s
+pub value_fits : (s : List ℕ) → len_of_equals_and_option_value s ≤ length s
 value_fits [] = omega arith
 value_fits (b ∷ s) = let run = prefix_len-le-length is_nonblank s in grind (arith, nat_tests)
 
@@ -99,7 +99,7 @@ dash_within b s =
     let rest = length-drop name (drop 2 (b ∷ s)) in
     let dashes : starts_with nat_eq (b ∷ s) (45 ∷ 45 ∷ []) ≡ true → 2 ≤ length (b ∷ s) = begins_two (b ∷ s) 45 45 in
     let two = length-drop 2 (b ∷ s) in
-    choose (b ∷ s) (starts_with nat_eq (b ∷ s) (45 ∷ 45 ∷ []) && nat_lt 0 name) (Whole Opt (2 + name + option_value_len (drop name (drop 2 (b ∷ s))))) (Whole Symbol 1) (λ h. let le = dashes (first_of _ _ h) in record { some = omega arith; fits = omega arith }) (λ _. symbol_within b s)
+    choose (b ∷ s) (starts_with nat_eq (b ∷ s) (45 ∷ 45 ∷ []) && nat_lt 0 name) (Whole Opt (2 + name + len_of_equals_and_option_value (drop name (drop 2 (b ∷ s))))) (Whole Symbol 1) (λ h. let le = dashes (first_of _ _ h) in record { some = omega arith; fits = omega arith }) (λ _. symbol_within b s)
 
 -- the tests that the octets of a symbol fail
 pub record IsOther (b : ℕ) (s : List ℕ) : Type 0 where

@@ -4,7 +4,7 @@ use Rattle.std.specs.List.{prefix_len}
 use Rattle.std.proofs.lemmas.List.{drop-append-le, take-append-le}
 use Rattle.std.proofs.lemmas.List.Sums.{prefix_len-le-length}
 use Rattle.pd_lex.specs.Octets.{is_digit, is_word, is_nonblank, is_not_newline}
-use Rattle.pd_lex.specs.Pieces.{fraction_len, option_value_len, word_piece, point_piece, dash_piece, piece}
+use Rattle.pd_lex.specs.Pieces.{fraction_len, len_of_equals_and_option_value, word_piece, point_piece, dash_piece, piece}
 
 -- no run goes on past a newline
 pub prefix_len_in_line : (p : ℕ → Bool) (s more : List ℕ) → p 10 ≡ false → prefix_len p (s ++ 10 ∷ more) ≡ prefix_len p s
@@ -15,7 +15,7 @@ pub fraction_in_line : (s more : List ℕ) → fraction_len (s ++ 10 ∷ more) �
 fraction_in_line [] more = refl
 fraction_in_line (b ∷ s) more = rw (prefix_len_in_line is_digit s more refl) refl
 
-pub value_in_line : (s more : List ℕ) → option_value_len (s ++ 10 ∷ more) ≡ option_value_len s
+pub value_in_line : (s more : List ℕ) → len_of_equals_and_option_value (s ++ 10 ∷ more) ≡ len_of_equals_and_option_value s
 value_in_line [] more = refl
 value_in_line (b ∷ s) more = rw (prefix_len_in_line is_nonblank s more refl) refl
 

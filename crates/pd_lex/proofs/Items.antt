@@ -1,7 +1,7 @@
 -- The items from a place on, one piece at a time.
 use Rattle.std.proofs.Common.{◌≡◌, ℕ, zero, suc, ◌<◌, ◌≤◌, true, List, [], ◌∷◌, length, max, refl, sym, ap, subst, ◌∙◌, arith, ◌⊎◌, inl, inr}
 use Rattle.std.specs.List.{list_all}
-use Rattle.pd_text.specs.Text.{is_line}
+use Rattle.pd_text.specs.Text.{has_no_newline}
 use Rattle.pd_lex.specs.declared.token.TokenKind.{TokenKind}
 use Rattle.pd_lex.specs.declared.token.Place.{Place}
 use Rattle.pd_lex.specs.Places.{clamped_place, octets_from, place_after, before, IsPlace}
@@ -42,7 +42,7 @@ pub items_from : (lines : List (List ℕ)) (p q : Place) → IsPlace lines q →
 unfolding items octets_from
 items_from lines p q h e = rw (← e, clamped_of_place lines q h) refl
 
-module _ (lines : List (List ℕ)) (plain : list_all is_line lines ≡ true) where
+module _ (lines : List (List ℕ)) (plain : list_all has_no_newline lines ≡ true) where
   items_at : (p : Place) → IsPlace lines p → items lines p ≡ all_within (max 1 (length lines)) p (octets_from lines p)
   unfolding items
   items_at p h = rw (clamped_of_place lines p h) refl

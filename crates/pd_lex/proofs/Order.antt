@@ -4,7 +4,7 @@ use Rattle.std.specs.List.{list_all}
 use Rattle.std.proofs.lemmas.List.{drop-append-le, nil_from_length}
 use Rattle.std.proofs.lemmas.Bool.{cases_lt}
 use Rattle.std.proofs.lemmas.Bool.Decides.{nat_tests}
-use Rattle.pd_text.specs.Text.{is_line}
+use Rattle.pd_text.specs.Text.{has_no_newline}
 use Rattle.pd_lex.specs.declared.token.TokenKind.{TokenKind}
 use Rattle.pd_lex.specs.declared.token.Place.{Place}
 use Rattle.pd_lex.specs.declared.scan.Piece.{Piece}
@@ -36,7 +36,7 @@ after_rises p (b ∷ text) = by_test (b == 10) (after_rises (record { line = p.l
     by_test false next same = same
 
 -- the place after the first piece, and the items from there on
-module _ (lines : List (List ℕ)) (plain : list_all is_line lines ≡ true) (p : Place) (h : IsPlace lines p) (rest : List ℕ) where
+module _ (lines : List (List ℕ)) (plain : list_all has_no_newline lines ≡ true) (p : Place) (h : IsPlace lines p) (rest : List ℕ) where
   after : Place
   after = place_after p (before (octets_from lines p) rest)
 
@@ -91,7 +91,7 @@ newline_is_no_token : (more : List ℕ) (kind : TokenKind) (rest : List ℕ) →
 unfolding front piece
 newline_is_no_token more kind rest e = cc
 
-module _ (lines : List (List ℕ)) (plain : list_all is_line lines ≡ true) (p : Place) (h : IsPlace lines p) (rest : List ℕ) (kind : TokenKind) (e : front (octets_from lines p) ≡ token kind rest) (stays : stays_in_line kind ≡ true) where
+module _ (lines : List (List ℕ)) (plain : list_all has_no_newline lines ≡ true) (p : Place) (h : IsPlace lines p) (rest : List ℕ) (kind : TokenKind) (e : front (octets_from lines p) ≡ token kind rest) (stays : stays_in_line kind ≡ true) where
   piece_stays : p.line ≤ length lines → (b : ℕ) (s : List ℕ) → b ∷ s ≡ drop p.at (line_at lines p.line) → (q : Piece) → IsWithin (b ∷ s) q → parted (b ∷ s ++ 10 ∷ joined (drop p.line lines)) q ≡ token kind rest → (place_after p (before (octets_from lines p) rest)).line ≡ p.line
   piece_stays le b s is (Blank n) w f = absurd cc
   piece_stays le b s is (Whole k n) w f =
@@ -137,7 +137,7 @@ unfolding front
 nothing_left [] e = refl
 nothing_left (b ∷ s) e = absurd (parted_some (b ∷ s) (piece (b ∷ s)) e)
 
-module _ (lines : List (List ℕ)) (plain : list_all is_line lines ≡ true) where
+module _ (lines : List (List ℕ)) (plain : list_all has_no_newline lines ≡ true) where
   rises_by : (k : ℕ) (p : Place) → IsPlace lines p → length (octets_from lines p) ≤ suc k → ((q : Place) → IsPlace lines q → length (octets_from lines q) ≤ k → IsInOrder q.line (max 1 (length lines)) (items lines q)) → (f : Front) → front (octets_from lines p) ≡ f → IsInOrder p.line (max 1 (length lines)) (items lines p)
   rises_by k p h le ih nothing e = rw (items_at_end lines plain p h (nothing_left (octets_from lines p) e)) refl
   rises_by k p h le ih (gap rest) e =
@@ -176,7 +176,7 @@ clamped_rises lines p = by_test (p.line == 0) refl
     by_test true e = omega (arith, is_zero p.line e)
     by_test false e = omega arith
 
-pub rise : (lines : List (List ℕ)) (p : Place) → list_all is_line lines ≡ true → IsInOrder p.line (max 1 (length lines)) (items lines p)
+pub rise : (lines : List (List ℕ)) (p : Place) → list_all has_no_newline lines ≡ true → IsInOrder p.line (max 1 (length lines)) (items lines p)
 rise lines p plain = by_line (length lines) p.line (IsInOrder p.line (max 1 (length lines)) (items lines p)) past within
   where
     past : length lines < p.line → IsInOrder p.line (max 1 (length lines)) (items lines p)

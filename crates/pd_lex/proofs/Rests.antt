@@ -6,7 +6,7 @@ use Rattle.std.proofs.lemmas.Bool.Decides.{nat_tests}
 use Rattle.pd_lex.specs.declared.token.Place.{Place}
 use Rattle.pd_lex.specs.Places.{first_place, joined, line_at, clamped_place, octets_from, place_after, IsPlace}
 use Rattle.std.specs.List.{list_all}
-use Rattle.pd_text.specs.Text.{is_line}
+use Rattle.pd_text.specs.Text.{has_no_newline}
 use Rattle.pd_lex.specs.Scanned.{IsLeftAt}
 
 min_within : (a b : ℕ) → a ≤ b → min a b ≡ a
@@ -72,7 +72,7 @@ and_second true b h = h
 and_second false b h = absurd cc
 
 -- the octet at a place is no newline within the line
-no_newline_at : (s : List ℕ) (n b : ℕ) (t : List ℕ) → is_line s ≡ true → drop n s ≡ b ∷ t → (b == 10) ≡ false
+no_newline_at : (s : List ℕ) (n b : ℕ) (t : List ℕ) → has_no_newline s ≡ true → drop n s ≡ b ∷ t → (b == 10) ≡ false
 no_newline_at [] zero b t h e = absurd cc
 no_newline_at [] (suc n) b t h e = absurd cc
 no_newline_at (x ∷ s) zero b t h e = let same : x ≡ b = ap (λ (l : List ℕ). get_or l 0 0) e in rw (← same) (not_true (x == 10) (list_all (λ y. not (y == 10)) s) h)
@@ -82,13 +82,13 @@ no_newline_at (x ∷ s) zero b t h e = let same : x ≡ b = ap (λ (l : List ℕ
     not_true false b h = refl
 no_newline_at (x ∷ s) (suc n) b t h e = no_newline_at s n b t (and_second (not (x == 10)) (list_all (λ y. not (y == 10)) s) h) e
 
-pub line_is_line : (lines : List (List ℕ)) (n : ℕ) → list_all is_line lines ≡ true → is_line (get_or lines n []) ≡ true
+pub line_is_line : (lines : List (List ℕ)) (n : ℕ) → list_all has_no_newline lines ≡ true → has_no_newline (get_or lines n []) ≡ true
 line_is_line [] n h = refl
-line_is_line (l ∷ lines) zero h = and_first (is_line l) (list_all is_line lines) h
-line_is_line (l ∷ lines) (suc n) h = line_is_line lines n (and_second (is_line l) (list_all is_line lines) h)
+line_is_line (l ∷ lines) zero h = and_first (has_no_newline l) (list_all has_no_newline lines) h
+line_is_line (l ∷ lines) (suc n) h = line_is_line lines n (and_second (has_no_newline l) (list_all has_no_newline lines) h)
 
 -- one octet further on
-module _ (lines : List (List ℕ)) (plain : list_all is_line lines ≡ true) where
+module _ (lines : List (List ℕ)) (plain : list_all has_no_newline lines ≡ true) where
   step_in_line : (p : Place) (b : ℕ) (rest : List ℕ) → IsPlace lines p → p.line ≤ length lines → (s : List ℕ) → drop p.at (line_at lines p.line) ≡ s → b ∷ rest ≡ s ++ 10 ∷ joined (drop p.line lines) → IsLeftAt lines (place_after p (b ∷ [])) rest
   step_in_line p b rest h le [] same e =
       let newline : b ≡ 10 = ap (λ (l : List ℕ). get_or l 0 0) e in

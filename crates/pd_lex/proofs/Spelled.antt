@@ -15,7 +15,7 @@ use Rattle.pd_lex.specs.declared.scan.Opener.{Opener}
 use Rattle.pd_lex.specs.declared.scan.Opener.TheVariants.{Comment, Quote, Backquote, Brace}
 use Rattle.pd_lex.specs.Octets.{is_digit, is_hex_digit, is_word, is_nonblank, is_not_newline, is_no_backquote, is_printable}
 use Rattle.pd_lex.specs.Places.{before}
-use Rattle.pd_lex.specs.Pieces.{is_hex_number, fraction_len, option_value_len, word_piece, point_piece, dash_piece, piece, rest_after_pair, rest_after_quote, rest_after_backquote, rest_after_closing, opener_text, opener_len, Front, nothing, gap, token, stray, closed, parted, front}
+use Rattle.pd_lex.specs.Pieces.{is_hex_number, fraction_len, len_of_equals_and_option_value, word_piece, point_piece, dash_piece, piece, find_rest_after_octet_pair, rest_after_unescaped_quote, rest_after_backquote, rest_after_closing, opener_text, opener_len, Front, nothing, gap, token, stray, closed, parted, front}
 use Rattle.pd_lex.specs.Spellings.{AreAll, AreSome, IsHex, IsValue, IsOpt, IsQuoted, empty, plain, escaped, IsStr, IsCmd, HasNo, IsCode, IsSpelled, IsLineComment, IsBlockComment, IsPiece, IsOpened}
 use Rattle.pd_lex.proofs.Fronts.{IsWithin, piece_within, IsOther, IsShaped, at_blank, at_word, at_point, at_dash, at_line_comment, at_opener, at_symbol, at_stray, shaped, run_begins, positive}
 use Rattle.pd_lex.proofs.Bounds.{begins_pair, begins_one, same_octet}
@@ -134,7 +134,7 @@ point_sound s =
     (λ _. sound_either (46 ∷ s) (nat_lt 0 f) (Whole Decimal f) (Whole Symbol 1) (λ h. no_symbol (46 ∷ s) Decimal f (λ e. cc) (let part = fraction_spelled (46 ∷ s) (positive f h) in ([], part.0, part.1, refl, part.2))) (λ _. point_symbol s))
 
 -- options
-value_spelled : (s : List ℕ) → IsValue (take (option_value_len s) s)
+value_spelled : (s : List ℕ) → IsValue (take (len_of_equals_and_option_value s) s)
 value_spelled [] = inl refl
 value_spelled (b ∷ s) = by_test (b == 61) refl
   where
@@ -145,17 +145,17 @@ value_spelled (b ∷ s) = by_test (b == 61) refl
     by_test true e = inr (take (prefix_len is_nonblank s) s, rw (add-one, is_equals b e) refl, run_passes is_nonblank s)
     by_test false e = inl refl
 
-opt_spelled : (more : List ℕ) → 0 < prefix_len is_word more → IsOpt (take (2 + prefix_len is_word more + option_value_len (drop (prefix_len is_word more) more)) (45 ∷ 45 ∷ more))
+opt_spelled : (more : List ℕ) → 0 < prefix_len is_word more → IsOpt (take (2 + prefix_len is_word more + len_of_equals_and_option_value (drop (prefix_len is_word more) more)) (45 ∷ 45 ∷ more))
 opt_spelled more some =
     let n = prefix_len is_word more in
-    let v = option_value_len (drop n more) in
+    let v = len_of_equals_and_option_value (drop n more) in
     let sum : 2 + n + v ≡ suc (suc (n + v)) = omega arith in
     (take n more, take v (drop n more), rw (sum, take_sum n v more (prefix_len-le-length is_word more)) refl, (omega (arith, run_length is_word more), run_passes is_word more), value_spelled (drop n more))
 
-dashes_list : (s more : List ℕ) → s ≡ 45 ∷ 45 ∷ more → 0 < prefix_len is_word (drop 2 s) → IsOpt (take (2 + prefix_len is_word (drop 2 s) + option_value_len (drop (prefix_len is_word (drop 2 s)) (drop 2 s))) s)
+dashes_list : (s more : List ℕ) → s ≡ 45 ∷ 45 ∷ more → 0 < prefix_len is_word (drop 2 s) → IsOpt (take (2 + prefix_len is_word (drop 2 s) + len_of_equals_and_option_value (drop (prefix_len is_word (drop 2 s)) (drop 2 s))) s)
 dashes_list s more is some = rw is (opt_spelled more (rw is at some))
 
-dashes_then : (s : List ℕ) → starts_with nat_eq (45 ∷ s) (45 ∷ 45 ∷ []) ≡ true → 0 < prefix_len is_word (drop 2 (45 ∷ s)) → IsOpt (take (2 + prefix_len is_word (drop 2 (45 ∷ s)) + option_value_len (drop (prefix_len is_word (drop 2 (45 ∷ s))) (drop 2 (45 ∷ s)))) (45 ∷ s))
+dashes_then : (s : List ℕ) → starts_with nat_eq (45 ∷ s) (45 ∷ 45 ∷ []) ≡ true → 0 < prefix_len is_word (drop 2 (45 ∷ s)) → IsOpt (take (2 + prefix_len is_word (drop 2 (45 ∷ s)) + len_of_equals_and_option_value (drop (prefix_len is_word (drop 2 (45 ∷ s))) (drop 2 (45 ∷ s)))) (45 ∷ s))
 dashes_then s h some =
     let is = begins_pair 45 45 45 s h in
     dashes_list (45 ∷ s) is.0 is.1 some
@@ -168,7 +168,7 @@ unfolding dash_piece
 dash_sound s =
     let starts = starts_with nat_eq (45 ∷ s) (45 ∷ 45 ∷ []) in
     let n = prefix_len is_word (drop 2 (45 ∷ s)) in
-    let v = option_value_len (drop n (drop 2 (45 ∷ s))) in
+    let v = len_of_equals_and_option_value (drop n (drop 2 (45 ∷ s))) in
     sound_either (45 ∷ s) (starts && nat_lt 0 n) (Whole Opt (2 + n + v)) (Whole Symbol 1)
     (λ h. no_symbol (45 ∷ s) Opt (2 + n + v) (λ e. cc) (dashes_then s (and_first starts (nat_lt 0 n) h) (positive n (and_second starts (nat_lt 0 n) h))))
     (λ _. dash_symbol s)
@@ -221,22 +221,22 @@ Tells b x = ((eqb b x ≡ true) × (b ≡ x)) ⊎ ((eqb b x ≡ false) × (b ≢
 abbrev pub QuotedBefore : List ℕ → List ℕ → Type 0
 QuotedBefore s r = (body : List ℕ) × (s ≡ body ++ 34 ∷ r) × IsQuoted body
 
-quote_last : (b : ℕ) (r : List ℕ) → rest_after_quote (b ∷ []) ≡ Some r → Tells b 34 → QuotedBefore (b ∷ []) r
+quote_last : (b : ℕ) (r : List ℕ) → rest_after_unescaped_quote (b ∷ []) ≡ Some r → Tells b 34 → QuotedBefore (b ∷ []) r
 quote_last b r e (inl t) = let g : Some [] ≡ Some r = rw t.0 at e in ([], cc (t.1), empty)
 quote_last b r e (inr f) = absurd (let g = rw f.0 at e in cc)
 
-quote_step : (b c : ℕ) (s r : List ℕ) → rest_after_quote (b ∷ c ∷ s) ≡ Some r → (rest_after_quote s ≡ Some r → QuotedBefore s r) → (rest_after_quote (c ∷ s) ≡ Some r → QuotedBefore (c ∷ s) r) → Tells b 34 → Tells b 92 → QuotedBefore (b ∷ c ∷ s) r
+quote_step : (b c : ℕ) (s r : List ℕ) → rest_after_unescaped_quote (b ∷ c ∷ s) ≡ Some r → (rest_after_unescaped_quote s ≡ Some r → QuotedBefore s r) → (rest_after_unescaped_quote (c ∷ s) ≡ Some r → QuotedBefore (c ∷ s) r) → Tells b 34 → Tells b 92 → QuotedBefore (b ∷ c ∷ s) r
 quote_step b c s r e after next (inl t) u = let g : Some (c ∷ s) ≡ Some r = rw t.0 at e in ([], cc (t.1), empty)
 quote_step b c s r e after next (inr f) (inl t) =
-    let g : rest_after_quote s ≡ Some r = rw (f.0, t.0) at e in
+    let g : rest_after_unescaped_quote s ≡ Some r = rw (f.0, t.0) at e in
     let q = after g in
     (92 ∷ c ∷ q.0, ap (λ (n : ℕ). n ∷ c ∷ s) t.1 ∙ ap (λ (l : List ℕ). 92 ∷ c ∷ l) q.1, escaped q.2)
 quote_step b c s r e after next (inr f) (inr g) =
-    let h : rest_after_quote (c ∷ s) ≡ Some r = rw (f.0, g.0) at e in
+    let h : rest_after_unescaped_quote (c ∷ s) ≡ Some r = rw (f.0, g.0) at e in
     let q = next h in
     (b ∷ q.0, ap (λ (l : List ℕ). b ∷ l) q.1, plain f.1 g.1 q.2)
 
-quoted_before : (s r : List ℕ) → rest_after_quote s ≡ Some r → QuotedBefore s r
+quoted_before : (s r : List ℕ) → rest_after_unescaped_quote s ≡ Some r → QuotedBefore s r
 quoted_before [] r e = absurd cc
 quoted_before (b ∷ []) r e = quote_last b r e (eqb_tells b 34)
 quoted_before (b ∷ c ∷ s) r e = quote_step b c s r e (quoted_before s r) (quoted_before (c ∷ s) r) (eqb_tells b 34) (eqb_tells b 92)
@@ -269,7 +269,7 @@ no_pair_first x y b s body r fails is none [] back e =
     both_ways (starts_with nat_eq (b ∷ s) (x ∷ y ∷ [])) (pair_begins (b ∷ s) (back ++ x ∷ y ∷ r) x y (rw (is, second, first) refl)) fails
 no_pair_first x y b s body r fails is none (f ∷ front) back e = none front back (ap (drop 1) e)
 
-pair_step : (x y b : ℕ) (s r : List ℕ) (t : Bool) → starts_with nat_eq (b ∷ s) (x ∷ y ∷ []) ≡ t → cond t (Some (drop 1 s)) (rest_after_pair x y s) ≡ Some r → (rest_after_pair x y s ≡ Some r → PairBefore x y s r) → PairBefore x y (b ∷ s) r
+pair_step : (x y b : ℕ) (s r : List ℕ) (t : Bool) → starts_with nat_eq (b ∷ s) (x ∷ y ∷ []) ≡ t → cond t (Some (drop 1 s)) (find_rest_after_octet_pair x y s) ≡ Some r → (find_rest_after_octet_pair x y s ≡ Some r → PairBefore x y s r) → PairBefore x y (b ∷ s) r
 pair_step x y b s r true starts e next =
     let is = begins_pair b x y s starts in
     let rest : drop 1 s ≡ is.0 = ap (drop 2) is.1 in
@@ -282,7 +282,7 @@ pair_step x y b s r false fails e next =
     let q = next e in
     (b ∷ q.0, ap (λ (l : List ℕ). b ∷ l) q.1, no_pair_first x y b s q.0 r fails q.1 q.2)
 
-pair_before : (x y : ℕ) (s r : List ℕ) → rest_after_pair x y s ≡ Some r → PairBefore x y s r
+pair_before : (x y : ℕ) (s r : List ℕ) → find_rest_after_octet_pair x y s ≡ Some r → PairBefore x y s r
 pair_before x y [] r e = absurd cc
 pair_before x y (b ∷ s) r e = pair_step x y b s r (starts_with nat_eq (b ∷ s) (x ∷ y ∷ [])) refl e (pair_before x y s r)
 

@@ -19,9 +19,9 @@ fraction_len [] = 0
 fraction_len (b ∷ s) = if (b == point) && nat_lt 0 (prefix_len is_digit s) then prefix_len is_digit s + 1 else 0
 
 -- the length of `=` with all up to the next blank, or 0
-abbrev pub option_value_len : List ℕ → ℕ
-option_value_len [] = 0
-option_value_len (b ∷ s) = if b == equals then prefix_len is_nonblank s + 1 else 0
+abbrev pub len_of_equals_and_option_value : List ℕ → ℕ
+len_of_equals_and_option_value [] = 0
+len_of_equals_and_option_value (b ∷ s) = if b == equals then prefix_len is_nonblank s + 1 else 0
 
 -- a run of letters, digits and `_`; digits alone may go on as a decimal
 unfoldable pub word_piece : List ℕ → Piece
@@ -42,7 +42,7 @@ point_piece s =
 unfoldable pub dash_piece : List ℕ → Piece
 dash_piece s =
     let name = prefix_len is_word (drop 2 s) in
-    if starts_with nat_eq s (codes "--") && nat_lt 0 name then Whole Opt (2 + name + option_value_len (drop name (drop 2 s)))
+    if starts_with nat_eq s (codes "--") && nat_lt 0 name then Whole Opt (2 + name + len_of_equals_and_option_value (drop name (drop 2 s)))
     else Whole Symbol 1
 
 -- the piece at the front of a line
@@ -61,9 +61,9 @@ piece (b ∷ s) =
     else (if is_printable b then Whole Symbol 1 else Stray)))))))))
 
 -- the octets after the first place where these two octets come one after the other
-abbrev pub rest_after_pair : ℕ → ℕ → List ℕ → Option (List ℕ)
-rest_after_pair x y [] = None
-rest_after_pair x y (b ∷ s) = if starts_with nat_eq (b ∷ s) (x ∷ y ∷ []) then Some (drop 1 s) else rest_after_pair x y s
+abbrev pub find_rest_after_octet_pair : ℕ → ℕ → List ℕ → Option (List ℕ)
+find_rest_after_octet_pair x y [] = None
+find_rest_after_octet_pair x y (b ∷ s) = if starts_with nat_eq (b ∷ s) (x ∷ y ∷ []) then Some (drop 1 s) else find_rest_after_octet_pair x y s
 
 -- the octets after the first backquote
 abbrev pub rest_after_backquote : List ℕ → Option (List ℕ)
@@ -71,17 +71,17 @@ rest_after_backquote [] = None
 rest_after_backquote (b ∷ s) = if b == backquote then Some s else rest_after_backquote s
 
 -- the octets after the first `"`; a backslash takes the next octet with it
-abbrev pub rest_after_quote : List ℕ → Option (List ℕ)
-rest_after_quote [] = None
-rest_after_quote (b ∷ []) = if b == quote then Some [] else None
-rest_after_quote (b ∷ c ∷ s) = if b == quote then Some (c ∷ s) else (if b == backslash then rest_after_quote s else rest_after_quote (c ∷ s))
+abbrev pub rest_after_unescaped_quote : List ℕ → Option (List ℕ)
+rest_after_unescaped_quote [] = None
+rest_after_unescaped_quote (b ∷ []) = if b == quote then Some [] else None
+rest_after_unescaped_quote (b ∷ c ∷ s) = if b == quote then Some (c ∷ s) else (if b == backslash then rest_after_unescaped_quote s else rest_after_unescaped_quote (c ∷ s))
 
 -- the octets after the end of the piece that was opened: `*/`, `"`, a backquote or `}%`
 abbrev pub rest_after_closing : Opener → List ℕ → Option (List ℕ)
-rest_after_closing openers.Comment s = rest_after_pair 42 47 s
-rest_after_closing openers.Quote s = rest_after_quote s
+rest_after_closing openers.Comment s = find_rest_after_octet_pair 42 47 s
+rest_after_closing openers.Quote s = rest_after_unescaped_quote s
 rest_after_closing openers.Backquote s = rest_after_backquote s
-rest_after_closing openers.Brace s = rest_after_pair 125 37 s
+rest_after_closing openers.Brace s = find_rest_after_octet_pair 125 37 s
 
 -- the octets that open it: `/*`, `"`, a backquote or `%{`
 abbrev pub opener_text : Opener → List ℕ

@@ -1,12 +1,12 @@
 //! The end of what was opened, within a line.
 ghost use Rattle.std.specs.Prelude.{◌≡◌, ◌≤◌, length, option_copied, IfSome};
-ghost use Rattle.pd_lex.specs.Pieces.{rest_after_pair, rest_after_quote, rest_after_backquote, rest_after_closing};
+ghost use Rattle.pd_lex.specs.Pieces.{find_rest_after_octet_pair, rest_after_unescaped_quote, rest_after_backquote, rest_after_closing};
 
 use crate::scan::Opener;
 
 /// The octets after the first pair of these two.
-fn rest_after_pair(s: &[u8], x: u8, y: u8) -> Option<&[u8]>
-    ensures after { option_copied result ≡ rest_after_pair x y s.now }
+fn find_rest_after_octet_pair(s: &[u8], x: u8, y: u8) -> Option<&[u8]>
+    ensures after { option_copied result ≡ find_rest_after_octet_pair x y s.now }
 {
     let mut rest = s;
     loop {
@@ -33,8 +33,8 @@ fn rest_after_backquote(s: &[u8]) -> Option<&[u8]>
 }
 
 /// The octets after the first `"` that no backslash takes.
-fn rest_after_quote(s: &[u8]) -> Option<&[u8]>
-    ensures after { option_copied result ≡ rest_after_quote s.now }
+fn rest_after_unescaped_quote(s: &[u8]) -> Option<&[u8]>
+    ensures after { option_copied result ≡ rest_after_unescaped_quote s.now }
 {
     let mut rest = s;
     loop {
@@ -52,9 +52,9 @@ pub fn rest_after_closing(opener: Opener, s: &[u8]) -> Option<&[u8]>
     ensures after { option_copied result ≡ rest_after_closing opener s.now }
 {
     match opener {
-        Opener::Comment => rest_after_pair(s, b'*', b'/'),
-        Opener::Quote => rest_after_quote(s),
+        Opener::Comment => find_rest_after_octet_pair(s, b'*', b'/'),
+        Opener::Quote => rest_after_unescaped_quote(s),
         Opener::Backquote => rest_after_backquote(s),
-        Opener::Brace => rest_after_pair(s, b'}', b'%'),
+        Opener::Brace => find_rest_after_octet_pair(s, b'}', b'%'),
     }
 }

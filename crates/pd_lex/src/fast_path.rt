@@ -10,7 +10,7 @@ ghost use Rattle.pd_lex.specs.Scanned.{wrapped_digit, begins_name};
 ghost use Rattle.pd_lex.specs.declared.scan.Piece.TheVariants.{Whole};
 ghost use Rattle.pd_lex.specs.declared.token.TokenKind.TheVariants.{Int, Symbol};
 
-use crate::scan::{begun_word_len, fraction_len, is_digit, starts_with_word};
+use crate::scan::{fraction_len, is_digit, starts_with_word_octet, word_len_trusting_first_octet};
 use crate::token::TokenKind;
 
 /// A token of so many octets of the line, with the octet of a Symbol and the number of an Int.
@@ -72,7 +72,7 @@ pub fn few_digit_number_token(s: &[u8]) -> Option<FastToken>
             number: 0,
         });
     }
-    if starts_with_word(rest) {
+    if starts_with_word_octet(rest) {
         return None;
     }
     Some(FastToken {
@@ -95,7 +95,7 @@ pub fn word_token(s: &[u8]) -> Option<FastToken>
     Some(FastToken {
         kind: TokenKind::Word,
         symbol: 0,
-        len: begun_word_len(s),
+        len: word_len_trusting_first_octet(s),
         number: 0,
     })
 }
@@ -103,7 +103,7 @@ pub fn word_token(s: &[u8]) -> Option<FastToken>
 /// Three points, or a point before a blank.
 #[tactic(auto, unfolding(crate::specs::Pieces::piece, crate::specs::Pieces::point_piece))]
 #[inline(always)]
-pub fn dots_or_point_token(s: &[u8]) -> Option<FastToken>
+pub fn three_dots_or_point_before_blank_token(s: &[u8]) -> Option<FastToken>
     ensures piece { IfSome result (λ p. Whole p.kind p.len ≡ piece s.now) }
     ensures within { IfSome result (λ p. p.len ≤ length s.now) }
     ensures number { IfSome result (λ p. p.kind ≡ Int → p.number ≡ capped_number (take p.len s.now)) }
@@ -136,7 +136,7 @@ fn symbol_token_of(octet: u8) -> Option<FastToken>
 
 /// The octet at the front, which begins a Symbol and nothing else.
 #[inline(always)]
-pub fn leading_symbol_token(s: &[u8]) -> Option<FastToken>
+pub fn symbol_token_trusting_first_octet(s: &[u8]) -> Option<FastToken>
     requires some { 0 < length s.now }
     requires class { class_of (get_or s.now 0 0) ≡ classes.Symbol }
     ensures piece { IfSome result (λ p. Whole p.kind p.len ≡ piece s.now) }

@@ -2,14 +2,14 @@
 //!
 //! `next_token` passes over blanks and comments, and gives the token at a `Place` of a text, the
 //! end of the text, or the line where no token can be read (`Lexed`). A `Token` has its kind, its
-//! octets, the meaning of a symbol or a whole number, and the place after it. `lookahead_at` and
-//! `update_lookahead` are for a reader that goes on from token to token: they hand on the line of that
+//! octets, the meaning of a symbol or a whole number, and the place after it. `next_token_and_its_end_line` and
+//! `replace_lookahead_by_next_token_from` are for a reader that goes on from token to token: they hand on the line of that
 //! place, so that it isn't looked up again.
 //!
 //! A token is the longest piece that the text has at its place: `IsLongest` (specs/Spellings.antt).
 //! A text has the items that follow from that, and no others: `AreItemsOf` (specs/Tokens.antt), the
-//! law `law_longest_pieces`. Texts with equal first lines have the same tokens there: `AgreeTo`
-//! (specs/Agreement.antt), the law `law_first_lines`.
+//! law `law_tokens_are_exactly_longest_pieces`. Texts with equal first lines have the same tokens there: `AgreeTo`
+//! (specs/Agreement.antt), the law `law_first_lines_fix_tokens_in_order`.
 //!
 //! Why it is so:
 //! - No list of tokens is made. A place is all that is needed to go on, so the lexer keeps no state
@@ -35,7 +35,10 @@ mod scan;
 mod step;
 mod token;
 
-pub use laws::{law_first_lines, law_items_after_tokens, law_longest_pieces};
-pub use next::{lookahead_at, next_token, update_lookahead};
-pub use numbers::{decimal_value, digit_value, value_with_more_digits};
+pub use laws::{
+    law_first_lines_fix_tokens_in_order, law_items_after_token_follow_its_end,
+    law_tokens_are_exactly_longest_pieces,
+};
+pub use next::{next_token, next_token_and_its_end_line, replace_lookahead_by_next_token_from};
+pub use numbers::{digit_value, saturating_decimal_value, saturating_value_with_more_digits};
 pub use token::{Lexed, Lookahead, Place, Token, TokenKind};

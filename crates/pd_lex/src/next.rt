@@ -12,9 +12,10 @@ ghost use Rattle.pd_lex.specs.Places.{line_at};
 
 use crate::classes::{OctetClass, class_of};
 use crate::fast_path::{
-    FastToken, dots_or_point_token, few_digit_number_token, leading_symbol_token, word_token,
+    FastToken, few_digit_number_token, symbol_token_trusting_first_octet,
+    three_dots_or_point_before_blank_token, word_token,
 };
-use crate::numbers::number_if_int;
+use crate::numbers::number_if_int_or_zero;
 use crate::places::{first_nonblank_from, line_or_empty};
 use crate::scan::is_digit;
 use crate::step::{LexStep, step_at};
@@ -31,11 +32,11 @@ pub fn next_token<'a>(lines: &'a Lines, place: Place) -> Lexed<'a>
     ensures line { HasLine lines.now result }
     ensures text { HasText lines.now result }
 {
-    lookahead_at(lines, place).next
+    next_token_and_its_end_line(lines, place).next
 }
 
 /// `next_token`, with the line of the place after it.
-pub fn lookahead_at<'a>(lines: &'a Lines, place: Place) -> Lookahead<'a>
+pub fn next_token_and_its_end_line<'a>(lines: &'a Lines, place: Place) -> Lookahead<'a>
     ensures next { IsNext lines.now place result.next }
     ensures cut { IsCut lines.now place result.next }
     ensures line { HasLine lines.now result.next }
@@ -46,13 +47,17 @@ pub fn lookahead_at<'a>(lines: &'a Lines, place: Place) -> Lookahead<'a>
         line: &[],
         next: Lexed::End,
     };
-    read_after_blank_lines(lines, place, &mut lookahead);
+    set_lookahead_to_token_past_blank_lines(lines, place, &mut lookahead);
     lookahead
 }
 
 /// The same, put in the place of what was read before, where the line of the place is known.
 #[inline(always)]
-pub fn update_lookahead<'a>(lines: &'a Lines, place: Place, lookahead: &mut Lookahead<'a>)
+pub fn replace_lookahead_by_next_token_from<'a>(
+    lines: &'a Lines,
+    place: Place,
+    lookahead: &mut Lookahead<'a>,
+)
     requires one { 1 ≤ place.line }
     requires known { lookahead.old.line.now ≡ line_at lines.now place.line }
     ensures next { IsNext lines.now place lookahead.new.next }
@@ -65,24 +70,28 @@ pub fn update_lookahead<'a>(lines: &'a Lines, place: Place, lookahead: &mut Look
     let octets = lookahead.line;
     let at = first_nonblank_from(octets, place.at);
     if at >= octets.len() {
-        return read_after_blank_lines(lines, place, lookahead);
+        return set_lookahead_to_token_past_blank_lines(lines, place, lookahead);
     }
     let from = Place {
         line: place.line,
         at,
     };
-    read_by_first_octet(lines, from, &octets[at..], lookahead);
+    set_lookahead_by_class_of_first_octet(lines, from, &octets[at..], lookahead);
 }
 
 /// Looks lines up until one has more than blanks. It is apart, since it comes once a line.
 #[inline(never)]
-fn read_after_blank_lines<'a>(lines: &'a Lines, place: Place, lookahead: &mut Lookahead<'a>)
+fn set_lookahead_to_token_past_blank_lines<'a>(
+    lines: &'a Lines,
+    place: Place,
+    lookahead: &mut Lookahead<'a>,
+)
     ensures { IsReadAt lines.now place lookahead.new.next lookahead.new.line.now }
 {
     let mut here = place;
     'lines: loop {
         let Some(octets) = lines.line(here.line) else {
-            return read_any_token(lines, here, lookahead);
+            return set_lookahead_past_blanks_and_comments(lines, here, lookahead);
         };
         let at = first_nonblank_from(octets, here.at);
         if at >= octets.len() {
@@ -94,13 +103,13 @@ fn read_after_blank_lines<'a>(lines: &'a Lines, place: Place, lookahead: &mut Lo
             at,
         };
         lookahead.line = octets;
-        return read_by_first_octet(lines, from, &octets[at..], lookahead);
+        return set_lookahead_by_class_of_first_octet(lines, from, &octets[at..], lookahead);
     }
 }
 
 /// Reads the token at a place in a line, of which this much is left, by its first octet.
 #[inline(always)]
-fn read_by_first_octet<'a>(
+fn set_lookahead_by_class_of_first_octet<'a>(
     lines: &'a Lines,
     from: Place,
     rest: &'a [u8],
@@ -116,51 +125,17 @@ fn read_by_first_octet<'a>(
             lines,
             from,
             rest,
-            leading_symbol_token(rest),
+            symbol_token_trusting_first_octet(rest),
             lookahead,
         ),
-        _ => read_non_symbol(lines, from, rest, lookahead),
+        _ => set_lookahead_to_non_symbol_token(lines, from, rest, lookahead),
     }
 }
 
 /// Reads a token that its first octet doesn't show to be a symbol. It is apart, since a symbol
 /// needs fewer registers.
 #[inline(never)]
-fn read_non_symbol<'a>(lines: &'a Lines, from: Place, rest: &'a [u8], lookahead: &mut Lookahead<'a>)
-    requires left { IsLeftInLine lines.now from rest.now }
-    requires plain { AreLines lines.now }
-    requires known { lookahead.old.line.now ≡ line_at lines.now from.line }
-    ensures { IsReadAt lines.now from lookahead.new.next lookahead.new.line.now }
-{
-    if is_digit(rest[0]) {
-        return read_number(lines, from, rest, lookahead);
-    }
-    match class_of(rest[0]) {
-        OctetClass::Letter => set_fast_token_or_read_any(
-            lines,
-            from,
-            rest,
-            word_token(rest),
-            lookahead,
-        ),
-        _ => read_point_or_other(lines, from, rest, lookahead),
-    }
-}
-
-/// Reads a piece that begins with a digit. It is apart, since a word needs fewer registers.
-#[inline(never)]
-fn read_number<'a>(lines: &'a Lines, from: Place, rest: &'a [u8], lookahead: &mut Lookahead<'a>)
-    requires left { IsLeftInLine lines.now from rest.now }
-    requires plain { AreLines lines.now }
-    requires known { lookahead.old.line.now ≡ line_at lines.now from.line }
-    ensures { IsReadAt lines.now from lookahead.new.next lookahead.new.line.now }
-{
-    set_fast_token_or_read_any(lines, from, rest, few_digit_number_token(rest), lookahead);
-}
-
-/// Reads what begins with a point, or with an octet of no class.
-#[inline(never)]
-fn read_point_or_other<'a>(
+fn set_lookahead_to_non_symbol_token<'a>(
     lines: &'a Lines,
     from: Place,
     rest: &'a [u8],
@@ -171,7 +146,57 @@ fn read_point_or_other<'a>(
     requires known { lookahead.old.line.now ≡ line_at lines.now from.line }
     ensures { IsReadAt lines.now from lookahead.new.next lookahead.new.line.now }
 {
-    set_fast_token_or_read_any(lines, from, rest, dots_or_point_token(rest), lookahead);
+    if is_digit(rest[0]) {
+        return set_lookahead_to_number_token(lines, from, rest, lookahead);
+    }
+    match class_of(rest[0]) {
+        OctetClass::Letter => set_fast_token_or_read_any(
+            lines,
+            from,
+            rest,
+            word_token(rest),
+            lookahead,
+        ),
+        _ => set_lookahead_to_dots_point_or_any(lines, from, rest, lookahead),
+    }
+}
+
+/// Reads a piece that begins with a digit. It is apart, since a word needs fewer registers.
+#[inline(never)]
+fn set_lookahead_to_number_token<'a>(
+    lines: &'a Lines,
+    from: Place,
+    rest: &'a [u8],
+    lookahead: &mut Lookahead<'a>,
+)
+    requires left { IsLeftInLine lines.now from rest.now }
+    requires plain { AreLines lines.now }
+    requires known { lookahead.old.line.now ≡ line_at lines.now from.line }
+    ensures { IsReadAt lines.now from lookahead.new.next lookahead.new.line.now }
+{
+    set_fast_token_or_read_any(lines, from, rest, few_digit_number_token(rest), lookahead);
+}
+
+/// Reads what begins with a point, or with an octet of no class.
+#[inline(never)]
+fn set_lookahead_to_dots_point_or_any<'a>(
+    lines: &'a Lines,
+    from: Place,
+    rest: &'a [u8],
+    lookahead: &mut Lookahead<'a>,
+)
+    requires left { IsLeftInLine lines.now from rest.now }
+    requires plain { AreLines lines.now }
+    requires known { lookahead.old.line.now ≡ line_at lines.now from.line }
+    ensures { IsReadAt lines.now from lookahead.new.next lookahead.new.line.now }
+{
+    set_fast_token_or_read_any(
+        lines,
+        from,
+        rest,
+        three_dots_or_point_before_blank_token(rest),
+        lookahead,
+    );
 }
 
 /// Puts the token that was found at the front of what is left of a line in the place of what was
@@ -194,7 +219,7 @@ fn set_fast_token_or_read_any<'a>(
     ensures { IsReadAt lines.now from lookahead.new.next lookahead.new.line.now }
 {
     let Some(plain) = found else {
-        return read_any_token(lines, from, lookahead);
+        return set_lookahead_past_blanks_and_comments(lines, from, lookahead);
     };
     lookahead.next = Lexed::Token(Token {
         kind: plain.kind,
@@ -211,7 +236,11 @@ fn set_fast_token_or_read_any<'a>(
 
 /// Reads any token, also after comments.
 #[inline(never)]
-fn read_any_token<'a>(lines: &'a Lines, place: Place, lookahead: &mut Lookahead<'a>)
+fn set_lookahead_past_blanks_and_comments<'a>(
+    lines: &'a Lines,
+    place: Place,
+    lookahead: &mut Lookahead<'a>,
+)
     ensures { IsReadAt lines.now place lookahead.new.next lookahead.new.line.now }
 {
     let mut here = if place.line == 0 {
@@ -240,7 +269,7 @@ fn read_any_token<'a>(lines: &'a Lines, place: Place, lookahead: &mut Lookahead<
                 lookahead.next = Lexed::Token(Token {
                     kind,
                     symbol: first_octet_or_zero(text),
-                    number: number_if_int(kind, text),
+                    number: number_if_int_or_zero(kind, text),
                     text,
                     from,
                     to,

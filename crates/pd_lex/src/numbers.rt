@@ -22,7 +22,7 @@ pub fn digit_value(octet: u8) -> u64
 }
 
 /// The number that the digits write after those of `value`; one above the greatest `u64` counts as that.
-pub fn value_with_more_digits(radix: u64, value: u64, digits: &[u8]) -> u64
+pub fn saturating_value_with_more_digits(radix: u64, value: u64, digits: &[u8]) -> u64
     ensures { result ≡ fold (capped_digit radix) value digits.now }
 {
     digits.iter().fold(
@@ -35,18 +35,18 @@ pub fn value_with_more_digits(radix: u64, value: u64, digits: &[u8]) -> u64
 
 /// The number in digits; one above the greatest `u64` counts as that.
 #[tactic(auto, using(crate::proofs::Capped::capping))]
-pub fn decimal_value(digits: &[u8]) -> u64
+pub fn saturating_decimal_value(digits: &[u8]) -> u64
     ensures { result ≡ capped_number digits.now }
 {
-    value_with_more_digits(10, 0, digits)
+    saturating_value_with_more_digits(10, 0, digits)
 }
 
 /// The number of an Int.
-pub fn number_if_int(kind: TokenKind, text: &[u8]) -> u64
+pub fn number_if_int_or_zero(kind: TokenKind, text: &[u8]) -> u64
     ensures { kind ≡ Int → result ≡ capped_number text.now }
 {
     match kind {
-        TokenKind::Int => decimal_value(text),
+        TokenKind::Int => saturating_decimal_value(text),
         _ => 0,
     }
 }

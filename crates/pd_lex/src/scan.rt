@@ -2,7 +2,7 @@
 ghost use Rattle.std.specs.Prelude.{◌≡◌, ◌≤◌, ◌<◌, true, nat_lt, length};
 ghost use Rattle.std.specs.List.{prefix_len, list_all};
 ghost use Rattle.pd_lex.specs.Octets.{is_digit, is_hex_digit, is_word, is_blank, is_nonblank, is_not_newline};
-ghost use Rattle.pd_lex.specs.Pieces.{is_hex_number, fraction_len, option_value_len, word_piece, point_piece, dash_piece, piece, rest_after_pair, rest_after_quote, rest_after_backquote, rest_after_closing, opener_len};
+ghost use Rattle.pd_lex.specs.Pieces.{is_hex_number, fraction_len, len_of_equals_and_option_value, word_piece, point_piece, dash_piece, piece, find_rest_after_octet_pair, rest_after_unescaped_quote, rest_after_backquote, rest_after_closing, opener_len};
 ghost use Rattle.pd_lex.specs.Scanned.{piece_len, begins_name, run_piece, slash_piece, percent_piece};
 
 use crate::classes::{OctetClass, class_of};
@@ -104,7 +104,7 @@ pub fn word_len(s: &[u8]) -> usize
 
 /// The same where the first octet begins a word, which is not looked at again.
 #[inline(always)]
-pub fn begun_word_len(s: &[u8]) -> usize
+pub fn word_len_trusting_first_octet(s: &[u8]) -> usize
     requires { begins_name s.now ≡ true }
     ensures len { result ≡ prefix_len is_word s.now }
     ensures within { result ≤ length s.now }
@@ -159,8 +159,8 @@ pub fn fraction_len(s: &[u8]) -> usize
     }
 }
 
-fn option_value_len(s: &[u8]) -> usize
-    ensures len { result ≡ option_value_len s.now }
+fn len_of_equals_and_option_value(s: &[u8]) -> usize
+    ensures len { result ≡ len_of_equals_and_option_value s.now }
     ensures within { result ≤ length s.now }
 {
     match s {
@@ -171,7 +171,7 @@ fn option_value_len(s: &[u8]) -> usize
 
 /// Whether it begins with a letter, a digit or `_`.
 #[tactic(auto, using(crate::proofs::Words::goes_on_is))]
-pub fn starts_with_word(s: &[u8]) -> bool
+pub fn starts_with_word_octet(s: &[u8]) -> bool
     ensures { result ≡ nat_lt 0 (prefix_len is_word s.now) }
 {
     match s {
@@ -205,7 +205,7 @@ fn number_or_word_at(s: &[u8]) -> Piece
     if f > 0 {
         return Piece::Whole(TokenKind::Decimal, digits + f);
     }
-    if starts_with_word(rest) {
+    if starts_with_word_octet(rest) {
         hex_or_word_at(s)
     } else {
         Piece::Whole(TokenKind::Int, digits)
@@ -248,7 +248,10 @@ fn option_or_dash_at(s: &[u8]) -> Piece
         [b'-', b'-', rest @ ..] => {
             let n = word_len(rest);
             if n > 0 {
-                Piece::Whole(TokenKind::Opt, 2 + n + option_value_len(&rest[n..]))
+                Piece::Whole(
+                    TokenKind::Opt,
+                    2 + n + len_of_equals_and_option_value(&rest[n..]),
+                )
             } else {
                 Piece::Whole(TokenKind::Symbol, 1)
             }

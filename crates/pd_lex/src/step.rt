@@ -41,7 +41,7 @@ fn place_after_closing(lines: &Lines, opener: Opener, place: Place) -> Option<Pl
 }
 
 /// The step over what was opened, to the place after its end.
-fn step_over_closed<'a>(opener: Opener, after: Place) -> LexStep<'a>
+fn gap_or_token_of_closed_piece<'a>(opener: Opener, after: Place) -> LexStep<'a>
     ensures { IsClosing opener after result }
 {
     match opener {
@@ -67,7 +67,7 @@ pub fn step_at<'a>(lines: &'a Lines, place: Place, rest: &'a [u8]) -> LexStep<'a
                 at: at + opener.len(),
             };
             match place_after_closing(lines, opener, inside) {
-                Some(after) => step_over_closed(opener, after),
+                Some(after) => gap_or_token_of_closed_piece(opener, after),
                 None => LexStep::Stray,
             }
         }

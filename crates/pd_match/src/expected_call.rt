@@ -15,8 +15,8 @@ pub fn check_call(call: &Call, answer: &Answer) -> Option<Kind>
     ensures value { result ≡ result_mismatch call.now.result answer.now }
     ensures agrees { IsNone result ↔ IsResult call.now.result answer.now }
 {
-    if written_value(call.result) == answered_value(*answer)
-        && matches_written_error(call.result, *answer)
+    if number_of_expected_result(call.result) == answer_number_or_minus_one_on_error(*answer)
+        && matches_error_name_if_expected(call.result, *answer)
     {
         None
     } else {
@@ -24,7 +24,7 @@ pub fn check_call(call: &Call, answer: &Answer) -> Option<Kind>
     }
 }
 
-fn written_value(expected_result: ExpectedResult) -> i64
+fn number_of_expected_result(expected_result: ExpectedResult) -> i64
     ensures { result ≡ value_written expected_result }
 {
     match expected_result {
@@ -33,7 +33,7 @@ fn written_value(expected_result: ExpectedResult) -> i64
     }
 }
 
-fn answered_value(answer: Answer) -> i64
+fn answer_number_or_minus_one_on_error(answer: Answer) -> i64
     ensures { result ≡ value_answered answer }
 {
     match answer {
@@ -42,16 +42,16 @@ fn answered_value(answer: Answer) -> i64
     }
 }
 
-fn matches_written_error(expected_result: ExpectedResult, answer: Answer) -> bool
+fn matches_error_name_if_expected(expected_result: ExpectedResult, answer: Answer) -> bool
     ensures { result ≡ same_error expected_result answer }
 {
     match expected_result {
-        ExpectedResult::Negative(_, Some(name)) => is_written_error(name, answer),
+        ExpectedResult::Negative(_, Some(name)) => is_answer_error_of_name(name, answer),
         _ => true,
     }
 }
 
-fn is_written_error(name: ErrorName, answer: Answer) -> bool
+fn is_answer_error_of_name(name: ErrorName, answer: Answer) -> bool
     ensures { result ≡ is_answered name answer }
 {
     matches!(

@@ -8,7 +8,7 @@
 //!
 //! The kind is the first of `compared` in which the packet doesn't agree, and without one it agrees
 //! in all: `mismatch` (specs/Packets.antt), `Agrees` and `IsFirstFailing` (specs/Agreement.antt),
-//! the law `law_comparisons`.
+//! the law `law_first_mismatch_of_packets_and_calls`.
 //!
 //! Why it is so:
 //! - A fail names one thing. The order is fixed, so the word depends on the packet alone, and not
@@ -29,4 +29,4 @@ mod written_options;
 pub use expected_call::check_call;
 pub use expected_packet::{Expect, check_packet};
 pub use kinds::Kind;
-pub use laws::law_comparisons;
+pub use laws::law_first_mismatch_of_packets_and_calls;

@@ -6,7 +6,7 @@ use Rattle.pd_settings.specs.declared.settings.Settings.{Settings}
 use Rattle.pd_run.specs.Run.{verdict_of}
 use Rattle.pd_run.specs.declared.verdict.Verdict.{Verdict}
 use Rattle.pd_run.specs.declared.verdict.Verdict.TheVariants.{Pass, Fail}
-use Rattle.pd_mend.specs.Mending.{after, takes_all_if_any_awaited, IsMend, IsNoPass, IsUnfinished}
+use Rattle.pd_mend.specs.Mending.{after, takes_all_sent_packets_or_awaits_none, IsMend, IsNoPass, IsUnfinished}
 use Rattle.pd_mend.specs.Mended.{IsFinished, IsMended, Leads, RefusesToMend}
 use Rattle.pd_mend.specs.Inner.{IsNext, IsUnmendable, IsUnmade}
 use Rattle.pd_mend.specs.declared.mend_error.MendError.{MendError}
@@ -50,7 +50,7 @@ goes_on settings text left next way step =
       same = λ f. absurd (unfinished settings text left way step.mends.unfinished f);
     }
 
-pub ends : (settings : Settings) (text left : List (List ℕ)) (verdict : Verdict) (n : ℕ) → OnTheWay settings text left → verdict ≡ verdict_of left settings → verdict ≡ Pass n → takes_all_if_any_awaited settings left ≡ true → IsMended settings text left n
+pub ends : (settings : Settings) (text left : List (List ℕ)) (verdict : Verdict) (n : ℕ) → OnTheWay settings text left → verdict ≡ verdict_of left settings → verdict ≡ Pass n → takes_all_sent_packets_or_awaits_none settings left ≡ true → IsMended settings text left n
 ends settings text left verdict n way e p takes = record { leads = way.leads; passes = sym e ∙ p; takes = takes }
 
 pub is_stuck : (settings : Settings) (text left : List (List ℕ)) (verdict : Verdict) (refusal : MendError) → OnTheWay settings text left → verdict ≡ verdict_of left settings → IsUnfinished settings left → IsUnmendable left verdict refusal → RefusesToMend settings text refusal

@@ -38,6 +38,6 @@ abbrev pub IsChange : List (List ℕ) → List Event → ℕ → LineEdit → Ty
 IsChange text events line edit = IsPut text edit ⊎ ((edit.remove ≡ 1) × ((edit.from ≡ line) ⊎ IsFollowed events line edit.from))
 
 -- the leftovers name no packet that might have been awaited
-abbrev pub leaves_none_or_awaits_none : Option Leftovers → Bool
-leaves_none_or_awaits_none None = true
-leaves_none_or_awaits_none (Some leftovers) = not leftovers.awaits
+abbrev pub has_no_leftovers_or_awaits_none : Option Leftovers → Bool
+has_no_leftovers_or_awaits_none None = true
+has_no_leftovers_or_awaits_none (Some leftovers) = not leftovers.awaits

@@ -6,7 +6,7 @@ use Rattle.pd_text.specs.declared.line_edit.LineEdit.{LineEdit}
 use Rattle.pd_settings.specs.declared.settings.Settings.{Settings}
 use Rattle.pd_run.specs.Run.{verdict_of}
 use Rattle.pd_run.specs.declared.verdict.Verdict.TheVariants.{Pass}
-use Rattle.pd_mend.specs.Mending.{after, takes_all_if_any_awaited, IsMend, IsUnfinished, AreMends}
+use Rattle.pd_mend.specs.Mending.{after, takes_all_sent_packets_or_awaits_none, IsMend, IsUnfinished, AreMends}
 use Rattle.pd_mend.specs.declared.mend_error.MendError.{MendError}
 use Rattle.pd_mend.specs.declared.mend_error.MendError.TheVariants.{Stopped, TooLarge, OutOfMemory}
 
@@ -20,11 +20,11 @@ pub record Leads (settings : Settings) (text : List (List ℕ)) (end : List (Lis
 pub record IsMended (settings : Settings) (text : List (List ℕ)) (mended : List (List ℕ)) (events : ℕ) : Type 0 where
   pub leads : Leads settings text mended
   pub passes : verdict_of mended settings ≡ Pass events
-  pub takes : takes_all_if_any_awaited settings mended ≡ true
+  pub takes : takes_all_sent_packets_or_awaits_none settings mended ≡ true
 
 -- a text passes, and takes all packets if it awaits any
 abbrev pub IsFinished : Settings → List (List ℕ) → Type 0
-IsFinished settings text = ((n : ℕ) × (verdict_of text settings ≡ Pass n)) × (takes_all_if_any_awaited settings text ≡ true)
+IsFinished settings text = ((n : ℕ) × (verdict_of text settings ≡ Pass n)) × (takes_all_sent_packets_or_awaits_none settings text ≡ true)
 
 -- why a text isn't mended: mends lead to a text that isn't finished, or to one whose next mend is over the limits of a text; for want
 -- of memory nothing is claimed

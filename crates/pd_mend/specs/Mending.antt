@@ -21,8 +21,8 @@ IsNoPass (Pass n) = ⊥
 IsNoPass verdict = Unit {0}
 
 -- the events of a text that passes take all packets which its run puts out, or none of them awaits one
-abbrev pub takes_all_if_any_awaited : Settings → List (List ℕ) → Bool
-takes_all_if_any_awaited settings text = by (end_in settings (script_of text))
+abbrev pub takes_all_sent_packets_or_awaits_none : Settings → List (List ℕ) → Bool
+takes_all_sent_packets_or_awaits_none settings text = by (end_in settings (script_of text))
   where
     by : Option RunStateView → Bool
     by None = true
@@ -30,7 +30,7 @@ takes_all_if_any_awaited settings text = by (end_in settings (script_of text))
 
 -- a text isn't finished: it doesn't pass, or leaves packets though it awaits some
 abbrev pub IsUnfinished : Settings → List (List ℕ) → Type 0
-IsUnfinished settings text = IsNoPass (verdict_of text settings) ⊎ (takes_all_if_any_awaited settings text ≡ false)
+IsUnfinished settings text = IsNoPass (verdict_of text settings) ⊎ (takes_all_sent_packets_or_awaits_none settings text ≡ false)
 
 -- the line of the event after so many others
 abbrev pub line_after : List Event → ℕ → Option ℕ
@@ -52,12 +52,12 @@ pub record IsAtStop (settings : Settings) (text : List (List ℕ)) (edit : LineE
   pub one : edit.remove ≡ 1
 
 -- an octet may stand in a time of an input, or is a blank: a digit, `.`, `+`, a space or a tab
-abbrev pub is_time_or_blank : ℕ → Bool
-is_time_or_blank octet = (nat_le 48 octet && nat_le octet 57) || octet == 46 || octet == 43 || octet == 32 || octet == 9
+abbrev pub is_digit_point_plus_or_blank : ℕ → Bool
+is_digit_point_plus_or_blank octet = (nat_le 48 octet && nat_le octet 57) || octet == 46 || octet == 43 || octet == 32 || octet == 9
 
 -- the octets after the time with which a line begins
 abbrev pub octets_after_time : List ℕ → List ℕ
-octets_after_time octets = drop (prefix_len is_time_or_blank octets) octets
+octets_after_time octets = drop (prefix_len is_digit_point_plus_or_blank octets) octets
 
 -- an edit puts lines before one, of which nothing but the time with which it begins is changed: that counts from them
 pub record IsRetiming (text : List (List ℕ)) (edit : LineEdit) : Type 0 where

@@ -36,7 +36,7 @@ impl Displaced {
         alloc: Global,
         packet: &Packet,
     ) -> Result<Option<u64>, AllocError> {
-        let Some(place) = self.index_of_packet(alloc, packet)? else {
+        let Some(place) = self.find_index_of_matching_packet(alloc, packet)? else {
             return Ok(None);
         };
         match self.packets.get(place) {
@@ -50,7 +50,7 @@ impl Displaced {
     /// # Errors
     /// `AllocError` where a growth is refused.
     pub fn remove(&mut self, alloc: Global, packet: &Packet) -> Result<(), AllocError> {
-        match self.index_of_packet(alloc, packet)? {
+        match self.find_index_of_matching_packet(alloc, packet)? {
             Some(place) if place < self.packets.len() => {
                 self.packets.remove(place);
             }
@@ -59,10 +59,16 @@ impl Displaced {
         Ok(())
     }
 
-    fn index_of_packet(&self, alloc: Global, packet: &Packet) -> Result<Option<usize>, AllocError> {
+    fn find_index_of_matching_packet(
+        &self,
+        alloc: Global,
+        packet: &Packet,
+    ) -> Result<Option<usize>, AllocError> {
         let mut place = 0usize;
         for sent in &self.packets {
-            if Differences::of(alloc, packet, sent)?.count() == 0 {
+            if Differences::between_expected_and_sent_except_time(alloc, packet, sent)?.count()
+                == 0
+            {
                 return Ok(Some(place));
             }
             place = place.saturating_add(1);

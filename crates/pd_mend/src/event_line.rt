@@ -1,6 +1,9 @@
 //! An event as it stands on its line.
-use crate::replacements::aligned_second_column;
-use crate::tokens::{Columns, EventTokens, event_tokens, is_blank, octets_from, octets_in_columns};
+use crate::replacements::second_column_if_aligned_with_neighbours;
+use crate::tokens::{
+    Columns, EventTokens, find_nth_event_tokens_if_single_line, has_only_blanks, octets_from,
+    octets_in_columns,
+};
 use pd_script::{Event, Parsed};
 use pd_text::Lines;
 use std::alloc::{AllocError, Global};
@@ -26,7 +29,7 @@ impl<'a> EventLine<'a> {
     ///
     /// # Errors
     /// `AllocError` where a growth is refused.
-    pub fn find(
+    pub fn find_nth_event_if_on_one_line(
         alloc: Global,
         lines: &'a Lines,
         parsed: &'a Parsed,
@@ -35,7 +38,13 @@ impl<'a> EventLine<'a> {
         let Some(event) = parsed.events.as_slice().get(passed) else {
             return Ok(None);
         };
-        let Some(tokens) = event_tokens(alloc, lines, parsed.header.end(), passed)? else {
+        let Some(tokens) = find_nth_event_tokens_if_single_line(
+            alloc,
+            lines,
+            parsed.header.end(),
+            passed,
+        )?
+        else {
             return Ok(None);
         };
         let line = tokens.line;
@@ -58,9 +67,9 @@ impl<'a> EventLine<'a> {
     }
 
     /// The column of what follows the time, if lines beside this one have one.
-    pub fn column_after_time(&self) -> Option<usize> {
+    pub fn column_after_time_if_neighbours_align(&self) -> Option<usize> {
         if self.columns().from == 0 {
-            aligned_second_column(self.lines, self.line, self.octets)
+            second_column_if_aligned_with_neighbours(self.lines, self.line, self.octets)
         } else {
             None
         }
@@ -82,12 +91,12 @@ impl<'a> EventLine<'a> {
 
     /// Whether nothing but blanks is before it.
     pub fn is_first_on_line(&self) -> bool {
-        is_blank(self.octets_before())
+        has_only_blanks(self.octets_before())
     }
 
     /// Whether nothing but blanks is after it.
     pub fn is_last_on_line(&self) -> bool {
-        is_blank(self.octets_after())
+        has_only_blanks(self.octets_after())
     }
 
     /// Whether nothing but blanks or a comment is after it.
@@ -96,7 +105,7 @@ impl<'a> EventLine<'a> {
     }
 
     /// From which octet of its line on it stands, with the blanks before it where it is the first.
-    pub fn start_with_indent(&self) -> usize {
+    pub fn start_column_including_indent_if_first(&self) -> usize {
         if self.is_first_on_line() {
             0
         } else {
@@ -114,7 +123,7 @@ impl<'a> EventLine<'a> {
     }
 
     /// The line up to the end of the event, or of the comment that ends the line after it.
-    pub fn line_through_comment(&self) -> &'a [u8] {
+    pub fn line_through_event_or_trailing_comment(&self) -> &'a [u8] {
         if self.is_last_besides_comment() {
             self.octets
         } else {

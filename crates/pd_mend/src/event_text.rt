@@ -2,7 +2,7 @@
 use crate::event_line::EventLine;
 use crate::replacements::FieldEdits;
 use crate::tokens::{Columns, octets_from};
-use pd_print::write_time;
+use pd_print::render_time;
 use pd_script::{Packet, Time};
 use std::alloc::{AllocError, Global};
 
@@ -28,24 +28,30 @@ impl EventText {
     ///
     /// # Errors
     /// `AllocError` where a growth is refused.
-    pub fn of(own: &EventLine<'_>, packet: &Packet) -> Result<EventText, AllocError> {
-        let from = own.start_with_indent();
+    pub fn from_line_that_awaits_packet(
+        own: &EventLine<'_>,
+        packet: &Packet,
+    ) -> Result<EventText, AllocError> {
+        let from = own.start_column_including_indent_if_first();
         let time = own.tokens.time_columns();
         Ok(EventText {
             packet: packet.copy()?,
             line_time: own.event.time,
-            octets: Vec::from_slice(own.alloc, octets_from(own.line_through_comment(), from))?,
+            octets: Vec::from_slice(
+                own.alloc,
+                octets_from(own.line_through_event_or_trailing_comment(), from),
+            )?,
             time: Columns {
                 from: time.from.saturating_sub(from),
                 to: time.to.saturating_sub(from),
             },
             end: own.columns().to.saturating_sub(from),
-            column_after_time: own.column_after_time(),
+            column_after_time: own.column_after_time_if_neighbours_align(),
         })
     }
 
     /// The kind of its time: that of the line.
-    pub fn line_time(&self) -> Time {
+    pub fn original_line_time(&self) -> Time {
         self.line_time
     }
 
@@ -53,13 +59,17 @@ impl EventText {
     ///
     /// # Errors
     /// `AllocError` where a growth is refused.
-    pub fn at_time(&self, alloc: Global, time: Time) -> Result<Vec<u8>, AllocError> {
+    pub fn octets_with_time_replaced(
+        &self,
+        alloc: Global,
+        time: Time,
+    ) -> Result<Vec<u8>, AllocError> {
         let mut field_edits = FieldEdits::new(
             alloc,
             self.octets.as_slice(),
             self.column_after_time,
         );
-        field_edits.replace_field(self.time, write_time(alloc, time)?.as_slice())?;
+        field_edits.replace_field(self.time, render_time(alloc, time)?.as_slice())?;
         field_edits.finish(self.end)
     }
 }

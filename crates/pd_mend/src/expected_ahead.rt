@@ -36,7 +36,7 @@ impl ExpectedPacket<'_> {
 ///
 /// # Errors
 /// `AllocError` where a growth is refused.
-pub fn look_ahead<'a>(
+pub fn packets_awaited_before_next_input<'a>(
     alloc: Global,
     events: &'a [Event],
     base: u64,

@@ -42,7 +42,7 @@ impl<'a> FailureSite<'a> {
     ) -> Result<Option<FailureSite<'a>>, AllocError>
         ensures { IfOk result (λ found. IfSome found (λ site. (site.lines.now ≡ lines.now) × (site.parsed.now ≡ parsed.now) × (site.line ≡ line))) }
     {
-        match EventLine::find(alloc, lines, parsed, stop.passed)? {
+        match EventLine::find_nth_event_if_on_one_line(alloc, lines, parsed, stop.passed)? {
             Some(own) if own.line == line => Ok(Some(FailureSite {
                 alloc,
                 lines,
@@ -67,7 +67,7 @@ impl<'a> FailureSite<'a> {
     }
 
     /// The events from this one on.
-    pub fn remaining_events(&self) -> &'a [Event] {
+    pub fn events_from_failed_one_on(&self) -> &'a [Event] {
         let events = self.parsed.events.as_slice();
         match events.get(self.stop.passed) {
             Some(_) => &events[self.stop.passed..],

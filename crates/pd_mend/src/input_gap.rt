@@ -4,9 +4,11 @@ use crate::event_line::EventLine;
 use crate::failure_site::FailureSite;
 use crate::mend::{Mend, MendEffect, Target};
 use crate::rewrite_packet::event_line_with_time;
-use crate::times::{counted_from_later_base, line_with_time_of, single_moment_of};
+use crate::times::{
+    counted_from_later_base, event_line_with_time_prefix_of_other, single_moment_of,
+};
 use crate::tokens::{Columns, octets_in_columns};
-use crate::try_mend::stop_before_event;
+use crate::try_mend::run_to_never_sent_packet_before_event;
 use pd_run::{StopPoint, StopReason};
 use pd_script::{Action, Event, Time};
 use pd_seg::Sent;
@@ -32,17 +34,17 @@ pub struct InputGap<'a> {
 ///
 /// # Errors
 /// `AllocError` where a growth is refused.
-pub fn find_input_gap<'a>(
+pub fn find_gap_before_input_where_packet_left<'a>(
     site: &FailureSite<'a>,
     sent: &Sent,
 ) -> Result<Option<InputGap<'a>>, AllocError> {
     let passed = site.stop.passed;
     let events = site.parsed.events.as_slice();
-    let first = first_input_before_event(events, passed);
+    let first = first_of_inputs_right_before_event(events, passed);
     if first >= passed {
         return Ok(None);
     }
-    let Some(stop) = stop_before_event(site, first)? else {
+    let Some(stop) = run_to_never_sent_packet_before_event(site, first)? else {
         return Ok(None);
     };
     let mut base = stop.before.base();
@@ -53,7 +55,7 @@ pub fn find_input_gap<'a>(
         };
         let moment = single_moment_of(base, event.time).unwrap_or(base);
         clock = moment.max(clock);
-        if sent.at < clock || (sent.at == clock && has_left_before_input(site, number, sent)?) {
+        if sent.at < clock || (sent.at == clock && is_in_outbox_before_input(site, number, sent)?) {
             return InputGap::before(site, number, base);
         }
         base = moment;
@@ -62,7 +64,7 @@ pub fn find_input_gap<'a>(
 }
 
 /// The number of the first of the inputs that come right before an event.
-fn first_input_before_event(events: &[Event], passed: usize) -> usize {
+fn first_of_inputs_right_before_event(events: &[Event], passed: usize) -> usize {
     let mut first = 0usize;
     let mut number = 0usize;
     for event in events {
@@ -78,12 +80,12 @@ fn first_input_before_event(events: &[Event], passed: usize) -> usize {
 }
 
 /// Whether a packet has left before an input that acts at the same moment.
-fn has_left_before_input(
+fn is_in_outbox_before_input(
     site: &FailureSite<'_>,
     number: usize,
     sent: &Sent,
 ) -> Result<bool, AllocError> {
-    let Some(stop) = stop_before_event(site, number)? else {
+    let Some(stop) = run_to_never_sent_packet_before_event(site, number)? else {
         return Ok(false);
     };
     let StopPoint { stop_reason, .. } = stop;
@@ -100,13 +102,19 @@ impl<'a> InputGap<'a> {
         number: usize,
         base: u64,
     ) -> Result<Option<InputGap<'a>>, AllocError> {
-        let Some(input) = EventLine::find(site.alloc, site.lines, site.parsed, number)? else {
+        let Some(input) = EventLine::find_nth_event_if_on_one_line(
+            site.alloc,
+            site.lines,
+            site.parsed,
+            number,
+        )?
+        else {
             return Ok(None);
         };
         if !input.is_first_on_line() {
             return Ok(None);
         }
-        let first = match line_of_event(site, number.saturating_sub(1))? {
+        let first = match line_number_if_event_on_one_line(site, number.saturating_sub(1))? {
             Some(last) if last < input.line => {
                 first_insertable_line(site.lines, last.saturating_add(1), input.line)
             }
@@ -119,7 +127,7 @@ impl<'a> InputGap<'a> {
     ///
     /// # Errors
     /// `AllocError` where a growth is refused.
-    pub fn mend_filling_gap(
+    pub fn mend_inserting_line_in_gap_retiming_input(
         &self,
         text: &[u8],
         at: u64,
@@ -127,12 +135,15 @@ impl<'a> InputGap<'a> {
     ) -> Result<Mend, AllocError> {
         let input = &self.input;
         let mut lines = LineList::new(input.alloc);
-        lines.push_if_line(text)?;
+        lines.push_unless_newline_inside(text)?;
         let target = match input.event.time {
             Time::Relative(_) if at > self.base => {
                 let time = counted_from_later_base(input.event.time, at.saturating_sub(self.base));
-                let own = line_with_time_of(input, event_line_with_time(input, time)?.as_slice())?;
-                lines.push_if_line(own.as_slice())?;
+                let own = event_line_with_time_prefix_of_other(
+                    input,
+                    event_line_with_time(input, time)?.as_slice(),
+                )?;
+                lines.push_unless_newline_inside(own.as_slice())?;
                 Target::Retimed(input.line)
             }
             _ => Target::Before(self.first),
@@ -146,8 +157,11 @@ impl<'a> InputGap<'a> {
 }
 
 /// The line of an event, if all of it is there.
-fn line_of_event(site: &FailureSite<'_>, number: usize) -> Result<Option<usize>, AllocError> {
-    match EventLine::find(site.alloc, site.lines, site.parsed, number)? {
+fn line_number_if_event_on_one_line(
+    site: &FailureSite<'_>,
+    number: usize,
+) -> Result<Option<usize>, AllocError> {
+    match EventLine::find_nth_event_if_on_one_line(site.alloc, site.lines, site.parsed, number)? {
         Some(own) => Ok(Some(own.line)),
         None => Ok(None),
     }

@@ -1,17 +1,17 @@
 //! The packets that a script leaves which passes: whether there are any, and the edit that gives one a line.
 ghost use Rattle.std.specs.Prelude.{◌≡◌, IfOk, ◌⊎◌, ◌≤◌, IfSome, length};
-ghost use Rattle.pd_mend.specs.Inner.{leaves_none_or_awaits_none};
-ghost use Rattle.pd_mend.specs.Mending.{takes_all_if_any_awaited, IsRetiming};
+ghost use Rattle.pd_mend.specs.Inner.{has_no_leftovers_or_awaits_none};
+ghost use Rattle.pd_mend.specs.Mending.{takes_all_sent_packets_or_awaits_none, IsRetiming};
 
 use crate::event_line::EventLine;
 use crate::failure_site::FailureSite;
-use crate::input_gap::{find_input_gap, first_insertable_line};
-use crate::line_mends::line_text_for_sent;
+use crate::input_gap::{find_gap_before_input_where_packet_left, first_insertable_line};
+use crate::line_mends::moved_or_styled_line_text_for_sent;
 use crate::mend::{Mend, MendEffect, Target};
 use crate::mend_state::MendState;
-use crate::times::retiming_edit;
-use crate::try_mend::{NEVER, text_with_never_sent};
-use pd_explain::{Leftovers, find_leftovers};
+use crate::times::edit_if_last_line_is_line_retimed;
+use crate::try_mend::{NEVER, text_with_line_for_never_sent_packet};
+use pd_explain::{Leftovers, find_leftovers_if_passes};
 use pd_run::{StopReason, run_to_failure_on_line};
 use pd_script::{Action, Parsed, parse};
 use pd_seg::Sent;
@@ -23,20 +23,20 @@ use std::alloc::{AllocError, Global};
 ///
 /// # Errors
 /// `AllocError` where a growth is refused.
-pub fn takes_all_if_any_awaited(
+pub fn takes_all_sent_packets_or_awaits_none(
     alloc: Global,
     text: &Lines,
     settings: &Settings,
 ) -> Result<bool, AllocError>
-    ensures { IfOk result (λ taken. taken ≡ takes_all_if_any_awaited settings.now text.now) }
+    ensures { IfOk result (λ taken. taken ≡ takes_all_sent_packets_or_awaits_none settings.now text.now) }
 {
-    let found = find_leftovers(alloc, text, settings)?;
-    Ok(leaves_none_or_awaits_none(&found))
+    let found = find_leftovers_if_passes(alloc, text, settings)?;
+    Ok(has_no_leftovers_or_awaits_none(&found))
 }
 
 /// Whether leftovers name no packet that might have been awaited.
-fn leaves_none_or_awaits_none(found: &Option<Leftovers>) -> bool
-    ensures { result ≡ leaves_none_or_awaits_none found.now }
+fn has_no_leftovers_or_awaits_none(found: &Option<Leftovers>) -> bool
+    ensures { result ≡ has_no_leftovers_or_awaits_none found.now }
 {
     match found {
         Some(leftovers) => !leftovers.awaits,
@@ -49,7 +49,7 @@ fn leaves_none_or_awaits_none(found: &Option<Leftovers>) -> bool
 ///
 /// # Errors
 /// `AllocError` where a growth is refused.
-pub fn edit_for_oldest_leftover(
+pub fn edit_adding_line_for_oldest_leftover(
     alloc: Global,
     text: &Lines,
     settings: &Settings,
@@ -58,13 +58,15 @@ pub fn edit_for_oldest_leftover(
     ensures { IfOk result (λ found. IfSome found (λ edit. (edit.remove ≡ 0) ⊎ IsRetiming text.now edit)) }
 {
     let line = line_after_last_event(alloc, text, &parse(alloc, text)?)?;
-    if let Some(lines) = text_with_never_sent(alloc, text, line)? {
-        if let Some(mend) = mend_for_oldest_leftover(alloc, &lines, settings, line, mend_state)? {
-            return Ok(edit_of_inserting_mend(text, mend));
+    if let Some(lines) = text_with_line_for_never_sent_packet(alloc, text, line)? {
+        if let Some(mend) = find_and_note_mend_for_oldest_leftover(
+            alloc, &lines, settings, line, mend_state,
+        )? {
+            return Ok(edit_if_mend_inserts_or_retimes(text, mend));
         }
     }
     let mut insert = LineList::new(alloc);
-    insert.push_if_line(NEVER)?;
+    insert.push_unless_newline_inside(NEVER)?;
     Ok(Some(LineEdit {
         from: line,
         remove: 0,
@@ -73,7 +75,7 @@ pub fn edit_for_oldest_leftover(
 }
 
 /// The edit of a mend that puts lines in; nothing where it is another one.
-pub fn edit_of_inserting_mend(text: &Lines, mend: Mend) -> Option<LineEdit>
+pub fn edit_if_mend_inserts_or_retimes(text: &Lines, mend: Mend) -> Option<LineEdit>
     ensures { IfSome result (λ edit. (edit.remove ≡ 0) ⊎ IsRetiming text.now edit) }
 {
     match mend.target {
@@ -82,7 +84,7 @@ pub fn edit_of_inserting_mend(text: &Lines, mend: Mend) -> Option<LineEdit>
             remove: 0,
             insert: mend.lines,
         }),
-        Target::Retimed(from) => retiming_edit(text, from, mend.lines),
+        Target::Retimed(from) => edit_if_last_line_is_line_retimed(text, from, mend.lines),
         Target::Own | Target::Follower => None,
     }
 }
@@ -95,14 +97,14 @@ fn line_after_last_event(
 ) -> Result<usize, AllocError> {
     let end = text.len().saturating_add(1);
     let number = parsed.events.len().saturating_sub(1);
-    match EventLine::find(alloc, text, parsed, number)? {
+    match EventLine::find_nth_event_if_on_one_line(alloc, text, parsed, number)? {
         Some(last) => Ok(first_insertable_line(text, last.line.saturating_add(1), end)),
         None => Ok(end),
     }
 }
 
 /// The mend by which the oldest unmatched packet gets a line where a text awaits, at its end, one that is never sent.
-fn mend_for_oldest_leftover(
+fn find_and_note_mend_for_oldest_leftover(
     alloc: Global,
     lines: &Lines,
     settings: &Settings,
@@ -119,7 +121,7 @@ fn mend_for_oldest_leftover(
     let StopReason::Differs(_, sent, run) = &stop.stop_reason else {
         return Ok(None);
     };
-    let found = mend_in_last_style(&site, sent, run.tolerance(), mend_state)?;
+    let found = mend_inserting_in_style_of_last_expected(&site, sent, run.tolerance(), mend_state)?;
     if let Some(mend) = &found {
         mend_state.note_mend(&site, mend)?;
     }
@@ -127,28 +129,28 @@ fn mend_for_oldest_leftover(
 }
 
 /// The same at the event that awaits that packet.
-fn mend_in_last_style(
+fn mend_inserting_in_style_of_last_expected(
     site: &FailureSite<'_>,
     sent: &Sent,
     tolerance: u64,
     mend_state: &MendState,
 ) -> Result<Option<Mend>, AllocError> {
-    match last_expected_event(site)? {
-        Some(style) => mend_in_given_style(site, &style, sent, tolerance, mend_state),
-        None => mend_in_given_style(site, &site.own, sent, tolerance, mend_state),
+    match find_last_outbound_event_before_site(site)? {
+        Some(style) => mend_inserting_in_style_of_event(site, &style, sent, tolerance, mend_state),
+        None => mend_inserting_in_style_of_event(site, &site.own, sent, tolerance, mend_state),
     }
 }
 
 /// The same in the style of an event.
-fn mend_in_given_style(
+fn mend_inserting_in_style_of_event(
     site: &FailureSite<'_>,
     style: &EventLine<'_>,
     sent: &Sent,
     tolerance: u64,
     mend_state: &MendState,
 ) -> Result<Option<Mend>, AllocError> {
-    if let Some(gap) = find_input_gap(site, sent)? {
-        if let Some(text) = line_text_for_sent(
+    if let Some(gap) = find_gap_before_input_where_packet_left(site, sent)? {
+        if let Some(text) = moved_or_styled_line_text_for_sent(
             style,
             &mend_state.moved_lines,
             sent,
@@ -156,16 +158,26 @@ fn mend_in_given_style(
             tolerance,
         )? {
             let effect = MendEffect::Inserted(sent.copy()?);
-            return Ok(Some(gap.mend_filling_gap(text.octets.as_slice(), sent.at, effect)?));
+            return Ok(Some(gap.mend_inserting_line_in_gap_retiming_input(
+                text.octets.as_slice(),
+                sent.at,
+                effect,
+            )?));
         }
     }
     let base = site.stop.before.base();
-    let Some(text) = line_text_for_sent(style, &mend_state.moved_lines, sent, base, tolerance)?
+    let Some(text) = moved_or_styled_line_text_for_sent(
+        style,
+        &mend_state.moved_lines,
+        sent,
+        base,
+        tolerance,
+    )?
     else {
         return Ok(None);
     };
     let mut lines = LineList::new(site.alloc);
-    lines.push_if_line(text.octets.as_slice())?;
+    lines.push_unless_newline_inside(text.octets.as_slice())?;
     Ok(Some(Mend {
         target: Target::Before(site.line),
         lines,
@@ -174,7 +186,9 @@ fn mend_in_given_style(
 }
 
 /// The last event before a site that awaits a packet, if it is whole on its line.
-fn last_expected_event<'a>(site: &FailureSite<'a>) -> Result<Option<EventLine<'a>>, AllocError> {
+fn find_last_outbound_event_before_site<'a>(
+    site: &FailureSite<'a>,
+) -> Result<Option<EventLine<'a>>, AllocError> {
     let mut number = 0usize;
     let mut last = None;
     for event in site.parsed.events.as_slice() {
@@ -187,7 +201,12 @@ fn last_expected_event<'a>(site: &FailureSite<'a>) -> Result<Option<EventLine<'a
         number = number.saturating_add(1);
     }
     match last {
-        Some(number) => EventLine::find(site.alloc, site.lines, site.parsed, number),
+        Some(number) => EventLine::find_nth_event_if_on_one_line(
+            site.alloc,
+            site.lines,
+            site.parsed,
+            number,
+        ),
         None => Ok(None),
     }
 }

@@ -21,7 +21,7 @@ impl LineMap {
     }
 
     /// Where a line comes from.
-    pub fn origin_line_of(&self, line: usize) -> usize {
+    pub fn origin_line_or_line_itself(&self, line: usize) -> usize {
         match self.lines.get(line.saturating_sub(1)) {
             Some(origin) => *origin,
             None => line,
@@ -54,7 +54,7 @@ impl LineMap {
         }
         if line > number {
             for _ in 0..count {
-                lines.push(self.origin_line_of(number))?;
+                lines.push(self.origin_line_or_line_itself(number))?;
             }
         }
         Ok(LineMap { lines })

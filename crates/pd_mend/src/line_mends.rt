@@ -6,10 +6,11 @@ use crate::mend::{Mend, MendEffect, Target};
 use crate::moved_lines::MovedLines;
 use crate::rewrite_packet::{PacketRewrite, event_line_with_time, rewrite_packet_fields};
 use crate::times::{
-    counted_from_earlier_base, counted_from_later_base, single_moment_of, written_time_like,
+    counted_from_later_base, relative_time_if_counted_from_earlier_base, single_moment_of,
+    time_like_other_or_any_before_base,
 };
 use crate::tokens::{Columns, octets_from, octets_in_columns};
-use pd_print::write_time;
+use pd_print::render_time;
 use pd_run::RunState;
 use pd_script::{Action, Options, Time};
 use pd_seg::Sent;
@@ -34,9 +35,9 @@ pub enum Removal {
 ///
 /// # Errors
 /// `AllocError` where a growth is refused.
-pub fn mend_with_one_line(alloc: Global, octets: &[u8]) -> Result<Mend, AllocError> {
+pub fn mend_replacing_event_line_by_one(alloc: Global, octets: &[u8]) -> Result<Mend, AllocError> {
     let mut lines = LineList::new(alloc);
-    lines.push_if_line(octets)?;
+    lines.push_unless_newline_inside(octets)?;
     Ok(Mend {
         target: Target::Own,
         lines,
@@ -48,22 +49,27 @@ pub fn mend_with_one_line(alloc: Global, octets: &[u8]) -> Result<Mend, AllocErr
 ///
 /// # Errors
 /// `AllocError` where a growth is refused.
-pub fn line_text_for_sent(
+pub fn moved_or_styled_line_text_for_sent(
     style: &EventLine<'_>,
     moved_lines: &MovedLines,
     sent: &Sent,
     base: u64,
     tolerance: u64,
 ) -> Result<Option<NewText>, AllocError> {
-    if let Some(text) = moved_lines.line_text_for_sent(sent) {
-        let time = written_time_like(text.line_time(), base, sent.at, tolerance);
-        let octets = text.at_time(style.alloc, time)?;
+    if let Some(text) = moved_lines.text_of_line_moving_to_sent(sent) {
+        let time = time_like_other_or_any_before_base(
+            text.original_line_time(),
+            base,
+            sent.at,
+            tolerance,
+        );
+        let octets = text.octets_with_time_replaced(style.alloc, time)?;
         return Ok(Some(NewText { octets, time }));
     }
     let Action::Outbound(packet) = &style.event.action else {
         return Ok(None);
     };
-    let time = written_time_like(style.event.time, base, sent.at, tolerance);
+    let time = time_like_other_or_any_before_base(style.event.time, base, sent.at, tolerance);
     let change = PacketRewrite {
         segment: &sent.segment,
         fields: Differences {
@@ -77,7 +83,10 @@ pub fn line_text_for_sent(
         Some(line) => {
             let octets = Vec::from_slice(
                 style.alloc,
-                octets_from(line.as_slice(), style.start_with_indent()),
+                octets_from(
+                    line.as_slice(),
+                    style.start_column_including_indent_if_first(),
+                ),
             )?;
             Ok(Some(NewText { octets, time }))
         }
@@ -97,29 +106,35 @@ pub struct NewText {
 ///
 /// # Errors
 /// `AllocError` where a growth is refused.
-pub fn mend_inserting_packet(
+pub fn mend_inserting_packet_before_retimed_event(
     site: &FailureSite<'_>,
     sent: &Sent,
     run: &RunState,
     moved_lines: &MovedLines,
 ) -> Result<Option<Mend>, AllocError> {
     let base = run.base();
-    let Some(extra) = line_text_for_sent(&site.own, moved_lines, sent, base, run.tolerance())?
+    let Some(extra) = moved_or_styled_line_text_for_sent(
+        &site.own,
+        moved_lines,
+        sent,
+        base,
+        run.tolerance(),
+    )?
     else {
         return Ok(None);
     };
     let mut lines = LineList::new(site.alloc);
-    let from = push_line_before_event(&mut lines, site)?;
-    lines.push_if_line(extra.octets.as_slice())?;
+    let from = push_nonblank_text_before_event_as_line(&mut lines, site)?;
+    lines.push_unless_newline_inside(extra.octets.as_slice())?;
     match single_moment_of(base, extra.time) {
         Some(at) if at > base => {
             let own = event_line_with_time(
                 &site.own,
                 counted_from_later_base(site.own.event.time, at - base),
             )?;
-            lines.push_if_line(octets_from(own.as_slice(), from))?;
+            lines.push_unless_newline_inside(octets_from(own.as_slice(), from))?;
         }
-        _ => lines.push_if_line(octets_from(site.octets(), from))?,
+        _ => lines.push_unless_newline_inside(octets_from(site.octets(), from))?,
     }
     Ok(Some(Mend {
         target: Target::Own,
@@ -129,28 +144,31 @@ pub fn mend_inserting_packet(
 }
 
 /// Puts what is before the event on a line of its own, unless these are blanks; where the event's own line begins then.
-fn push_line_before_event(
+fn push_nonblank_text_before_event_as_line(
     lines: &mut LineList,
     site: &FailureSite<'_>,
 ) -> Result<usize, AllocError> {
     if !site.own.is_first_on_line() {
-        lines.push_if_line(site.own.octets_before().trim_ascii_end())?;
+        lines.push_unless_newline_inside(site.own.octets_before().trim_ascii_end())?;
     }
-    Ok(site.own.start_with_indent())
+    Ok(site.own.start_column_including_indent_if_first())
 }
 
 /// The event's packet wasn't sent here, and of its line this is left. All else on it stays.
 ///
 /// # Errors
 /// `AllocError` where a growth is refused.
-pub fn mend_removing_event(site: &FailureSite<'_>, removal: Removal) -> Result<Mend, AllocError> {
+pub fn mend_removing_event_or_commenting_it_out(
+    site: &FailureSite<'_>,
+    removal: Removal,
+) -> Result<Mend, AllocError> {
     let mut lines = LineList::new(site.alloc);
-    let from = push_line_before_event(&mut lines, site)?;
-    if let Some(comment) = comment_of_removed(site, from, removal)? {
-        lines.push_if_line(comment.as_slice())?;
+    let from = push_nonblank_text_before_event_as_line(&mut lines, site)?;
+    if let Some(comment) = comment_left_of_removed_event_unless_gone(site, from, removal)? {
+        lines.push_unless_newline_inside(comment.as_slice())?;
     }
     if !site.own.is_last_besides_comment() {
-        lines.push_if_line(site.own.octets_after().trim_ascii_start())?;
+        lines.push_unless_newline_inside(site.own.octets_after().trim_ascii_start())?;
     }
     Ok(Mend {
         target: Target::Own,
@@ -160,7 +178,7 @@ pub fn mend_removing_event(site: &FailureSite<'_>, removal: Removal) -> Result<M
 }
 
 /// The comment that is left of an event whose own line begins at an octet.
-fn comment_of_removed(
+fn comment_left_of_removed_event_unless_gone(
     site: &FailureSite<'_>,
     from: usize,
     removal: Removal,
@@ -176,11 +194,14 @@ fn comment_of_removed(
         Removal::NotSent => comment.extend_from_slice(NOT_SENT)?,
         Removal::LeftAt(at) => {
             comment.extend_from_slice(b"// left at ")?;
-            comment.extend_from_slice(write_time(site.alloc, Time::Absolute(at))?.as_slice())?;
+            comment.extend_from_slice(render_time(site.alloc, Time::Absolute(at))?.as_slice())?;
             comment.extend_from_slice(b": ")?;
         }
     }
-    comment.extend_from_slice(octets_from(site.own.line_through_comment(), columns.from))?;
+    comment.extend_from_slice(octets_from(
+        site.own.line_through_event_or_trailing_comment(),
+        columns.from,
+    ))?;
     Ok(Some(comment))
 }
 
@@ -190,25 +211,36 @@ impl FailureSite<'_> {
     ///
     /// # Errors
     /// `AllocError` where a growth is refused.
-    pub fn mend_not_sent(&self, removal: Removal) -> Result<Mend, AllocError> {
-        match self.mend_retiming_follower()? {
+    pub fn mend_retiming_follower_else_removing(
+        &self,
+        removal: Removal,
+    ) -> Result<Mend, AllocError> {
+        match self.mend_retiming_relative_follower_if_needed()? {
             Some(mend) => Ok(mend),
-            None => mend_removing_event(self, removal),
+            None => mend_removing_event_or_commenting_it_out(self, removal),
         }
     }
 
     /// The line of the next event, its time counted from the base of this one; nothing where that changes nothing.
-    fn mend_retiming_follower(&self) -> Result<Option<Mend>, AllocError> {
+    fn mend_retiming_relative_follower_if_needed(&self) -> Result<Option<Mend>, AllocError> {
         let base = self.stop.before.base();
         let Some(at) = single_moment_of(base, self.own.event.time) else {
             return Ok(None);
         };
         let number = self.stop.passed.saturating_add(1);
-        let Some(follower) = EventLine::find(self.alloc, self.lines, self.parsed, number)? else {
+        let Some(follower) = EventLine::find_nth_event_if_on_one_line(
+            self.alloc,
+            self.lines,
+            self.parsed,
+            number,
+        )?
+        else {
             return Ok(None);
         };
-        let Some(time) = counted_from_earlier_base(follower.event.time, at.saturating_sub(base))
-        else {
+        let Some(time) = relative_time_if_counted_from_earlier_base(
+            follower.event.time,
+            at.saturating_sub(base),
+        ) else {
             return Ok(None);
         };
         if at <= base || follower.line != follower.event.line {
@@ -217,7 +249,7 @@ impl FailureSite<'_> {
         let line = event_line_with_time(&follower, time)?;
         Ok(Some(Mend {
             target: Target::Follower,
-            ..mend_with_one_line(self.alloc, line.as_slice())?
+            ..mend_replacing_event_line_by_one(self.alloc, line.as_slice())?
         }))
     }
 }

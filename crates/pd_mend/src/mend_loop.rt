@@ -3,13 +3,13 @@ ghost use Rattle.std.specs.Prelude.{◌≡◌, true, IfOk, IfErr, MatchOption};
 ghost use Rattle.pd_run.specs.Grammatical.{IsVerdictOf};
 ghost use Rattle.pd_run.specs.Run.{verdict_of};
 ghost use Rattle.pd_run.specs.declared.verdict.Verdict.TheVariants.{Pass};
-ghost use Rattle.pd_mend.specs.Mending.{IsNoPass, IsUnfinished, takes_all_if_any_awaited};
+ghost use Rattle.pd_mend.specs.Mending.{IsNoPass, IsUnfinished, takes_all_sent_packets_or_awaits_none};
 ghost use Rattle.pd_mend.specs.Mended.{IsFinished, IsMended, RefusesToMend};
 ghost use Rattle.pd_mend.specs.Inner.{IsUnmendable};
 
-use crate::leftovers::takes_all_if_any_awaited;
+use crate::leftovers::takes_all_sent_packets_or_awaits_none;
 use crate::mend_error::{MendError, Unmendable};
-use crate::mender::{Mender, line_of_verdict};
+use crate::mender::{Mender, line_of_verdict_or_zero};
 use crate::moved_lines::MovedLines;
 use pd_run::{Verdict, run_all};
 use pd_settings::Settings;
@@ -84,19 +84,21 @@ fn mend_until_passed(
     let mut text = lines.copy()?;
     for _ in 0..MAX_MENDS {
         let verdict = run_all(alloc, &text, settings)?;
-        if let Some(events) = events_if_finished(alloc, &text, settings, verdict)? {
+        if let Some(events) = event_count_if_passed_and_all_taken(
+            alloc, &text, settings, verdict,
+        )? {
             return Ok(Mended {
                 lines: text,
                 events,
             });
         }
-        match mender.mend_once(alloc, &text, settings, verdict)? {
+        match mender.find_text_after_next_mend(alloc, &text, settings, verdict)? {
             Some(next) => text = next,
             None => return Err(unmendable_error(text, verdict, mender)),
         }
     }
     let verdict = run_all(alloc, &text, settings)?;
-    match events_if_finished(alloc, &text, settings, verdict)? {
+    match event_count_if_passed_and_all_taken(alloc, &text, settings, verdict)? {
         Some(events) => Ok(Mended {
             lines: text,
             events,
@@ -106,19 +108,19 @@ fn mend_until_passed(
 }
 
 /// How many events a text has that is finished: all pass, and all packets are taken.
-fn events_if_finished(
+fn event_count_if_passed_and_all_taken(
     alloc: Global,
     text: &Lines,
     settings: &Settings,
     verdict: Verdict,
 ) -> Result<Option<usize>, AllocError>
     requires { verdict ≡ verdict_of text.now settings.now }
-    ensures unfinished { IfOk result (λ end. MatchOption end (IsUnfinished settings.now text.now) (λ events. (verdict ≡ Pass events) × (takes_all_if_any_awaited settings.now text.now ≡ true))) }
+    ensures unfinished { IfOk result (λ end. MatchOption end (IsUnfinished settings.now text.now) (λ events. (verdict ≡ Pass events) × (takes_all_sent_packets_or_awaits_none settings.now text.now ≡ true))) }
 {
-    let Some(events) = events_if_passed(verdict) else {
+    let Some(events) = event_count_if_verdict_is_pass(verdict) else {
         return Ok(None);
     };
-    if takes_all_if_any_awaited(alloc, text, settings)? {
+    if takes_all_sent_packets_or_awaits_none(alloc, text, settings)? {
         Ok(Some(events))
     } else {
         Ok(None)
@@ -126,7 +128,7 @@ fn events_if_finished(
 }
 
 /// How many events passed, where all did.
-fn events_if_passed(verdict: Verdict) -> Option<usize>
+fn event_count_if_verdict_is_pass(verdict: Verdict) -> Option<usize>
     ensures { MatchOption result (IsNoPass verdict) (λ events. verdict ≡ Pass events) }
 {
     match verdict {
@@ -140,7 +142,7 @@ fn unmendable_error(lines: Lines, verdict: Verdict, mender: &Mender) -> MendErro
     ensures { IsUnmendable lines verdict result }
 {
     MendError::Stopped(Unmendable {
-        line: mender.given_line_of(line_of_verdict(verdict)),
+        line: mender.given_line_of(line_of_verdict_or_zero(verdict)),
         lines,
         verdict,
     })

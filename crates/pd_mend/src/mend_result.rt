@@ -1,10 +1,10 @@
 //! The answer of a call, in the place of its written result.
 use crate::failure_site::FailureSite;
-use crate::line_mends::mend_with_one_line;
+use crate::line_mends::mend_replacing_event_line_by_one;
 use crate::mend::Mend;
 use crate::replacements::FieldEdits;
 use crate::tokens::{Columns, EventTokens};
-use pd_print::write_answer;
+use pd_print::render_answer;
 use pd_seg::Answer;
 use std::alloc::AllocError;
 
@@ -23,7 +23,10 @@ struct ResultColumns {
 ///
 /// # Errors
 /// `AllocError` where a growth is refused.
-pub fn mend_result(site: &FailureSite<'_>, answer: Answer) -> Result<Option<Mend>, AllocError> {
+pub fn mend_writing_answer_as_call_result(
+    site: &FailureSite<'_>,
+    answer: Answer,
+) -> Result<Option<Mend>, AllocError> {
     let Some(field_columns) = result_columns(&site.own.tokens) else {
         return Ok(None);
     };
@@ -37,14 +40,14 @@ pub fn mend_result(site: &FailureSite<'_>, answer: Answer) -> Result<Option<Mend
         }
     };
     let mut field_edits = FieldEdits::new(site.alloc, site.octets(), None);
-    field_edits.replace_field(columns, write_answer(site.alloc, answer)?.as_slice())?;
+    field_edits.replace_field(columns, render_answer(site.alloc, answer)?.as_slice())?;
     let line = field_edits.finish(field_columns.end)?;
-    Ok(Some(mend_with_one_line(site.alloc, line.as_slice())?))
+    Ok(Some(mend_replacing_event_line_by_one(site.alloc, line.as_slice())?))
 }
 
 /// Where the result of a call stands: after an equals sign outside brackets.
 fn result_columns(event: &EventTokens) -> Option<ResultColumns> {
-    let equals = equals_sign_index(event)?;
+    let equals = index_of_first_equals_outside_brackets(event)?;
     let first = event.get(equals.saturating_add(1))?;
     let last = event.tokens.len().saturating_sub(1);
     let mut to = first.columns.to;
@@ -66,7 +69,7 @@ fn result_columns(event: &EventTokens) -> Option<ResultColumns> {
 }
 
 /// The number of the first equals sign outside brackets.
-fn equals_sign_index(event: &EventTokens) -> Option<usize> {
+fn index_of_first_equals_outside_brackets(event: &EventTokens) -> Option<usize> {
     let mut depth = 0usize;
     for number in 0..event.tokens.len() {
         match event.get(number)?.symbol {

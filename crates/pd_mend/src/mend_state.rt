@@ -45,11 +45,11 @@ impl MendState {
     /// `AllocError` where a growth is refused.
     pub fn into_moved_lines(self, alloc: Global) -> Result<MovedLines, AllocError> {
         let MendState { move_log, .. } = self;
-        move_log.into_moved_lines(alloc)
+        move_log.pair_removed_lines_with_written_packets(alloc)
     }
 
     /// Whether the event's line was written where its packet leaves.
-    pub fn is_written_elsewhere(&self, site: &FailureSite<'_>) -> bool {
+    pub fn was_line_just_copied_elsewhere(&self, site: &FailureSite<'_>) -> bool {
         self.doubled == Some(site.line)
     }
 
@@ -58,7 +58,7 @@ impl MendState {
     /// # Errors
     /// `AllocError` where a growth is refused.
     pub fn was_sent_for_another(&self, site: &FailureSite<'_>) -> Result<bool, AllocError> {
-        match expected_packet(site) {
+        match find_packet_awaited_by_failed_event(site) {
             Some(packet) => Ok(
                 self.displaced
                     .sending_time_of(site.alloc, packet)?
@@ -72,11 +72,14 @@ impl MendState {
     ///
     /// # Errors
     /// `AllocError` where a growth is refused.
-    pub fn removal(&self, site: &FailureSite<'_>) -> Result<Removal, AllocError> {
-        if self.drop || self.is_written_elsewhere(site) {
+    pub fn choose_gone_or_comment_for_removed_event(
+        &self,
+        site: &FailureSite<'_>,
+    ) -> Result<Removal, AllocError> {
+        if self.drop || self.was_line_just_copied_elsewhere(site) {
             return Ok(Removal::Gone);
         }
-        Ok(match self.departure(site)? {
+        Ok(match self.find_known_departure_of_awaited_packet(site)? {
             Some(departure) if departure.has_own_line || site.own.is_last_on_line() =>
                 Removal::Gone,
             Some(departure) => Removal::LeftAt(departure.at),
@@ -85,11 +88,17 @@ impl MendState {
     }
 
     /// Where the awaited packet leaves, as far as that is known.
-    fn departure(&self, site: &FailureSite<'_>) -> Result<Option<Departure>, AllocError> {
-        let Some(packet) = expected_packet(site) else {
+    fn find_known_departure_of_awaited_packet(
+        &self,
+        site: &FailureSite<'_>,
+    ) -> Result<Option<Departure>, AllocError> {
+        let Some(packet) = find_packet_awaited_by_failed_event(site) else {
             return Ok(None);
         };
-        if let Some(departure) = self.moved_lines.departure(site.alloc, packet)? {
+        if let Some(departure) = self
+            .moved_lines
+            .find_departure_of_line_to_remove(site.alloc, packet)?
+        {
             return Ok(Some(departure));
         }
         match self.displaced.sending_time_of(site.alloc, packet)? {
@@ -106,7 +115,7 @@ impl MendState {
     /// # Errors
     /// `AllocError` where a growth is refused.
     pub fn note_mend(&mut self, site: &FailureSite<'_>, mend: &Mend) -> Result<(), AllocError> {
-        let was_doubled = self.is_written_elsewhere(site);
+        let was_doubled = self.was_line_just_copied_elsewhere(site);
         self.is_shifted = matches!(mend.target, Target::Follower);
         if !self.is_shifted {
             self.doubled = None;
@@ -117,36 +126,47 @@ impl MendState {
                 self.doubled = Some(site.line.saturating_add(mend.added_line_count()));
                 Ok(())
             }
-            MendEffect::Written(sent) => self.note_written_packet(sent, false),
-            MendEffect::Inserted(sent) => self.note_written_packet(sent, true),
+            MendEffect::Written(sent) => self.note_written_packet_in_displaced_and_moves(
+                sent, false,
+            ),
+            MendEffect::Inserted(sent) => self.note_written_packet_in_displaced_and_moves(
+                sent, true,
+            ),
             MendEffect::Removed if was_doubled => Ok(()),
-            MendEffect::Removed => self.note_removed_line(site),
+            MendEffect::Removed => self.drop_displaced_and_log_removed_line(site),
         }
     }
 
-    fn note_written_packet(&mut self, sent: &Sent, has_own_line: bool) -> Result<(), AllocError> {
+    fn note_written_packet_in_displaced_and_moves(
+        &mut self,
+        sent: &Sent,
+        has_own_line: bool,
+    ) -> Result<(), AllocError> {
         self.displaced.add_packet(sent.copy()?)?;
         if has_own_line {
-            self.moved_lines.note_written_packet(sent);
+            self.moved_lines.mark_line_for_sent_as_written(sent);
         }
         self.move_log
             .note_written_packet(sent.copy()?, has_own_line)
     }
 
     /// The awaited packet has no line any more.
-    fn note_removed_line(&mut self, site: &FailureSite<'_>) -> Result<(), AllocError> {
-        let Some(packet) = expected_packet(site) else {
+    fn drop_displaced_and_log_removed_line(
+        &mut self,
+        site: &FailureSite<'_>,
+    ) -> Result<(), AllocError> {
+        let Some(packet) = find_packet_awaited_by_failed_event(site) else {
             return Ok(());
         };
         self.displaced.remove(site.alloc, packet)?;
-        self.moved_lines.note_removed_line(site.alloc, packet)?;
-        self.move_log
-            .note_removed_line(EventText::of(&site.own, packet)?)
+        self.moved_lines
+            .mark_line_of_packet_as_removed(site.alloc, packet)?;
+        self.move_log.note_removed_line(EventText::from_line_that_awaits_packet(&site.own, packet)?)
     }
 }
 
 /// The packet that the event awaits.
-fn expected_packet<'a>(site: &FailureSite<'a>) -> Option<&'a Packet> {
+fn find_packet_awaited_by_failed_event<'a>(site: &FailureSite<'a>) -> Option<&'a Packet> {
     match &site.own.event.action {
         Action::Outbound(packet) => Some(packet),
         _ => None,

@@ -6,9 +6,9 @@ ghost use Rattle.pd_mend.specs.Mending.{IsPlaced, IsUnfinished, line_after, IsFo
 ghost use Rattle.pd_mend.specs.Inner.{IsChange, IsNext, IsUnmade};
 
 use crate::failure_site::FailureSite;
-use crate::leftovers::{edit_for_oldest_leftover, edit_of_inserting_mend};
+use crate::leftovers::{edit_adding_line_for_oldest_leftover, edit_if_mend_inserts_or_retimes};
 use crate::line_map::LineMap;
-use crate::mend::{Mend, Target, mend_for_site};
+use crate::mend::{Mend, Target, find_mend_by_stop_reason};
 use crate::mend_error::MendError;
 use crate::mend_state::MendState;
 use crate::moved_lines::MovedLines;
@@ -47,7 +47,7 @@ impl Mender {
 
     /// The line of the text as it was given from which a line comes.
     pub fn given_line_of(&self, line: usize) -> usize {
-        self.line_map.origin_line_of(line)
+        self.line_map.origin_line_or_line_itself(line)
     }
 
     /// The lines that turned out to move.
@@ -63,7 +63,7 @@ impl Mender {
     ///
     /// # Errors
     /// `TooLarge` where it would be over the limits of a text, and `OutOfMemory`.
-    pub fn mend_once(
+    pub fn find_text_after_next_mend(
         &mut self,
         alloc: Global,
         text: &Lines,
@@ -75,12 +75,15 @@ impl Mender {
         ensures next { IfOk result (λ next. IfSome next (IsNext settings.now text.now)) }
         ensures refused { IfErr result (IsUnmade settings.now text.now) }
     {
-        let Some(next_edit) = self.next_edit(alloc, text, settings, verdict)? else {
+        let Some(next_edit) = self.edit_for_failure_or_leftover_by_verdict(
+            alloc, text, settings, verdict,
+        )?
+        else {
             return Ok(None);
         };
         match text.apply(&next_edit) {
             Ok(next) => {
-                self.note_line_origins(alloc, &next_edit)?;
+                self.update_line_map_by_edit(alloc, &next_edit)?;
                 Ok(Some(next))
             }
             Err(TextFault::TooLarge) => Err(MendError::TooLarge),
@@ -90,7 +93,7 @@ impl Mender {
     }
 
     /// The edit of the next mend of a text: where its run fails, or where it passes and leaves packets.
-    fn next_edit(
+    fn edit_for_failure_or_leftover_by_verdict(
         &mut self,
         alloc: Global,
         text: &Lines,
@@ -101,8 +104,10 @@ impl Mender {
         ensures { IfOk result (λ found. IfSome found (IsPlaced settings.now text.now)) }
     {
         match verdict {
-            Verdict::Fail(line, _) => self.edit_for_failure_at(alloc, text, settings, line),
-            Verdict::Pass(_) => edit_for_oldest_leftover(
+            Verdict::Fail(line, _) => self.find_edit_for_failure_at_line(
+                alloc, text, settings, line,
+            ),
+            Verdict::Pass(_) => edit_adding_line_for_oldest_leftover(
                 alloc,
                 text,
                 settings,
@@ -113,7 +118,7 @@ impl Mender {
     }
 
     /// The edit of the next mend of a text whose run fails at a line.
-    fn edit_for_failure_at(
+    fn find_edit_for_failure_at_line(
         &mut self,
         alloc: Global,
         text: &Lines,
@@ -124,13 +129,15 @@ impl Mender {
     {
         let parsed = parse(alloc, text)?;
         match run_to_failure_on_line(alloc, &parsed, settings, line)? {
-            Some(stop) => self.edit_for_stop(alloc, text, settings, &parsed, &stop, line),
+            Some(stop) => self.find_edit_for_event_stopped_at_line(
+                alloc, text, settings, &parsed, &stop, line,
+            ),
             None => Ok(None),
         }
     }
 
     /// The same where the run of the text, which was read, stops so.
-    fn edit_for_stop(
+    fn find_edit_for_event_stopped_at_line(
         &mut self,
         alloc: Global,
         text: &Lines,
@@ -142,25 +149,32 @@ impl Mender {
         ensures { IfOk result (λ found. IfSome found (IsChange text.now parsed.now.events line)) }
     {
         match FailureSite::find_on_line(alloc, text, settings, parsed, stop, line)? {
-            Some(site) => self.edit_for_site(&site),
+            Some(site) => self.find_failed_event_edit_noting_mend(&site),
             None => Ok(None),
         }
     }
 
     /// The same at the event that stops it.
-    fn edit_for_site(&mut self, site: &FailureSite<'_>) -> Result<Option<LineEdit>, AllocError>
+    fn find_failed_event_edit_noting_mend(
+        &mut self,
+        site: &FailureSite<'_>,
+    ) -> Result<Option<LineEdit>, AllocError>
         ensures { IfOk result (λ found. IfSome found (IsChange site.now.lines.now site.now.parsed.now.events site.now.line)) }
     {
-        let Some(mend) = mend_for_site(site, &self.mend_state)? else {
+        let Some(mend) = find_mend_by_stop_reason(site, &self.mend_state)? else {
             return Ok(None);
         };
         self.mend_state.note_mend(site, &mend)?;
         let events = site.parsed.events.as_slice();
-        Ok(edit_of_mend(events, site.stop.passed, site.line, site.lines, mend))
+        Ok(edit_of_mend_if_text_changes(events, site.stop.passed, site.line, site.lines, mend))
     }
 
     /// Notes where the lines of an edit come from.
-    fn note_line_origins(&mut self, alloc: Global, next_edit: &LineEdit) -> Result<(), AllocError> {
+    fn update_line_map_by_edit(
+        &mut self,
+        alloc: Global,
+        next_edit: &LineEdit,
+    ) -> Result<(), AllocError> {
         self.line_map = self.line_map.after_edit(
             alloc,
             next_edit.from,
@@ -172,7 +186,7 @@ impl Mender {
 }
 
 /// The edit that makes a mend; nothing where the text would stay as it is.
-fn edit_of_mend(
+fn edit_of_mend_if_text_changes(
     events: &[Event],
     passed: usize,
     line: usize,
@@ -182,18 +196,18 @@ fn edit_of_mend(
     ensures { IfSome result (IsChange text.now events.now line) }
 {
     match mend.target {
-        Target::Own => replacing_edit(text, line, mend.lines),
-        Target::Follower => replacing_edit(
+        Target::Own => edit_replacing_line_if_different(text, line, mend.lines),
+        Target::Follower => edit_replacing_line_if_different(
             text,
-            follower_line_of(events, passed, line)?,
+            find_follower_line_if_event_on_line(events, passed, line)?,
             mend.lines,
         ),
-        Target::Before(_) | Target::Retimed(_) => edit_of_inserting_mend(text, mend),
+        Target::Before(_) | Target::Retimed(_) => edit_if_mend_inserts_or_retimes(text, mend),
     }
 }
 
 /// The edit that writes lines in the place of one; nothing where that is the same.
-fn replacing_edit(text: &Lines, from: usize, insert: LineList) -> Option<LineEdit>
+fn edit_replacing_line_if_different(text: &Lines, from: usize, insert: LineList) -> Option<LineEdit>
     ensures from { IfSome result (λ next_edit. next_edit.from ≡ from) }
     ensures one { IfSome result (λ next_edit. next_edit.remove ≡ 1) }
 {
@@ -208,7 +222,7 @@ fn replacing_edit(text: &Lines, from: usize, insert: LineList) -> Option<LineEdi
 }
 
 /// The line that a verdict names; 0 where it names none.
-pub fn line_of_verdict(verdict: Verdict) -> usize {
+pub fn line_of_verdict_or_zero(verdict: Verdict) -> usize {
     match verdict {
         Verdict::Pass(_) => 0,
         Verdict::Fail(line, _)
@@ -219,7 +233,7 @@ pub fn line_of_verdict(verdict: Verdict) -> usize {
 }
 
 /// The line of the event after so many others.
-fn line_of_event_at(events: &[Event], passed: usize) -> Option<usize>
+fn find_line_of_nth_event(events: &[Event], passed: usize) -> Option<usize>
     ensures { result ≡ line_after events.now passed }
 {
     match events.get(passed) {
@@ -230,14 +244,18 @@ fn line_of_event_at(events: &[Event], passed: usize) -> Option<usize>
 
 /// The line of the event that follows the one after so many others, if that one is on this line.
 #[tactic(auto, using(crate::proofs::Followers::followed))]
-fn follower_line_of(events: &[Event], passed: usize, line: usize) -> Option<usize>
+fn find_follower_line_if_event_on_line(
+    events: &[Event],
+    passed: usize,
+    line: usize,
+) -> Option<usize>
     ensures { IfSome result (IsFollowed events.now line) }
 {
     if passed >= events.len() {
         return None;
     }
-    match line_of_event_at(events, passed) {
-        Some(own) if own == line => line_of_event_at(events, passed + 1),
+    match find_line_of_nth_event(events, passed) {
+        Some(own) if own == line => find_line_of_nth_event(events, passed + 1),
         _ => None,
     }
 }

@@ -52,12 +52,12 @@ impl MovedLines {
     ///
     /// # Errors
     /// `AllocError` where a growth is refused.
-    pub fn departure(
+    pub fn find_departure_of_line_to_remove(
         &self,
         alloc: Global,
         packet: &Packet,
     ) -> Result<Option<Departure>, AllocError> {
-        let Some(place) = self.index_of_line_to_remove(alloc, packet)? else {
+        let Some(place) = self.index_of_unremoved_line_for_packet(alloc, packet)? else {
             return Ok(None);
         };
         match self.moved_lines.get(place) {
@@ -70,8 +70,8 @@ impl MovedLines {
     }
 
     /// The text of the line that moves to where this packet leaves.
-    pub fn line_text_for_sent(&self, sent: &Sent) -> Option<&EventText> {
-        let place = self.index_of_line_to_write(sent)?;
+    pub fn text_of_line_moving_to_sent(&self, sent: &Sent) -> Option<&EventText> {
+        let place = self.index_of_unwritten_line_for_sent(sent)?;
         match self.moved_lines.get(place) {
             Some(line) => Some(&line.text),
             None => None,
@@ -82,8 +82,12 @@ impl MovedLines {
     ///
     /// # Errors
     /// `AllocError` where a growth is refused.
-    pub fn note_removed_line(&mut self, alloc: Global, packet: &Packet) -> Result<(), AllocError> {
-        if let Some(place) = self.index_of_line_to_remove(alloc, packet)? {
+    pub fn mark_line_of_packet_as_removed(
+        &mut self,
+        alloc: Global,
+        packet: &Packet,
+    ) -> Result<(), AllocError> {
+        if let Some(place) = self.index_of_unremoved_line_for_packet(alloc, packet)? {
             if let Some(line) = self.moved_lines.get_mut(place) {
                 line.is_removed = true;
             }
@@ -92,22 +96,27 @@ impl MovedLines {
     }
 
     /// Notes that a packet got its line.
-    pub fn note_written_packet(&mut self, sent: &Sent) {
-        if let Some(place) = self.index_of_line_to_write(sent) {
+    pub fn mark_line_for_sent_as_written(&mut self, sent: &Sent) {
+        if let Some(place) = self.index_of_unwritten_line_for_sent(sent) {
             if let Some(line) = self.moved_lines.get_mut(place) {
                 line.is_written = true;
             }
         }
     }
 
-    fn index_of_line_to_remove(
+    fn index_of_unremoved_line_for_packet(
         &self,
         alloc: Global,
         packet: &Packet,
     ) -> Result<Option<usize>, AllocError> {
         let mut place = 0usize;
         for line in &self.moved_lines {
-            if !line.is_removed && Differences::of(alloc, packet, &line.sent)?.count() == 0 {
+            if !line.is_removed
+                && Differences::between_expected_and_sent_except_time(
+                    alloc, packet, &line.sent,
+                )?.count()
+                    == 0
+            {
                 return Ok(Some(place));
             }
             place = place.saturating_add(1);
@@ -115,7 +124,7 @@ impl MovedLines {
         Ok(None)
     }
 
-    fn index_of_line_to_write(&self, sent: &Sent) -> Option<usize> {
+    fn index_of_unwritten_line_for_sent(&self, sent: &Sent) -> Option<usize> {
         self.moved_lines.iter().position(|line| line.has_own_line
             && !line.is_written
             && line.sent.is_same(sent))
@@ -169,16 +178,18 @@ impl MoveLog {
     ///
     /// # Errors
     /// `AllocError` where a growth is refused.
-    pub fn into_moved_lines(self, alloc: Global) -> Result<MovedLines, AllocError> {
+    pub fn pair_removed_lines_with_written_packets(
+        self,
+        alloc: Global,
+    ) -> Result<MovedLines, AllocError> {
         let mut move_log = self;
         let mut found = MovedLines::new(alloc);
         for _ in 0..move_log.removed.len() {
             let Some(text) = move_log.removed.pop() else {
                 break;
             };
-            let Some(WrittenPacket { sent, has_own_line }) = move_log.take_packet_of_line(
-                alloc, &text,
-            )?
+            let Some(WrittenPacket { sent, has_own_line }) =
+                move_log.remove_written_packet_matching_line(alloc, &text)?
             else {
                 continue;
             };
@@ -194,14 +205,20 @@ impl MoveLog {
     }
 
     /// The packet of a line, which is no other one's then.
-    fn take_packet_of_line(
+    fn remove_written_packet_matching_line(
         &mut self,
         alloc: Global,
         text: &EventText,
     ) -> Result<Option<WrittenPacket>, AllocError> {
         let mut place = 0usize;
         for written in &self.written {
-            if Differences::of(alloc, &text.packet, &written.sent)?.count() == 0 {
+            if Differences::between_expected_and_sent_except_time(
+                alloc,
+                &text.packet,
+                &written.sent,
+            )?.count()
+                == 0
+            {
                 break;
             }
             place = place.saturating_add(1);

@@ -20,18 +20,18 @@ pub struct PacketColumns {
 }
 
 /// Where a packet's fields stand.
-pub fn packet_columns(event: &EventTokens, octets: &[u8]) -> Option<PacketColumns> {
+pub fn find_columns_of_packet_fields(event: &EventTokens, octets: &[u8]) -> Option<PacketColumns> {
     let arrow = event.index_after_time();
-    let first = first_number_after_arrow(event, arrow)?;
-    let length = number_columns_at(event, first.saturating_add(4))?;
+    let first = index_of_first_number_after_arrow(event, arrow)?;
+    let length = columns_if_token_is_number(event, first.saturating_add(4))?;
     let mut next = first.saturating_add(6);
     let mut before_options = event.get(first.saturating_add(5))?.columns.to;
-    let ack = number_after_word(event, octets, next, b"ack");
+    let ack = columns_of_number_if_after_word(event, octets, next, b"ack");
     if let Some(columns) = ack {
         before_options = columns.to;
         next = next.saturating_add(2);
     }
-    let win = number_after_word(event, octets, next, b"win");
+    let win = columns_of_number_if_after_word(event, octets, next, b"win");
     if let Some(columns) = win {
         before_options = columns.to;
         next = next.saturating_add(2);
@@ -39,18 +39,18 @@ pub fn packet_columns(event: &EventTokens, octets: &[u8]) -> Option<PacketColumn
     Some(PacketColumns {
         time: event.time_columns(),
         flags: event.columns_between(arrow.saturating_add(1), first.saturating_sub(1)),
-        start: number_columns_at(event, first)?,
-        end: number_columns_at(event, first.saturating_add(2))?,
+        start: columns_if_token_is_number(event, first)?,
+        end: columns_if_token_is_number(event, first.saturating_add(2))?,
         length,
         ack,
         win,
-        options: options_columns_from(event, next),
+        options: options_columns_if_at_token(event, next),
         before_options,
     })
 }
 
 /// The number of the first token after the arrow that is a number.
-fn first_number_after_arrow(event: &EventTokens, arrow: usize) -> Option<usize> {
+fn index_of_first_number_after_arrow(event: &EventTokens, arrow: usize) -> Option<usize> {
     for number in 0..event.tokens.len() {
         if number > arrow && event.get(number)?.is_number() {
             return Some(number);
@@ -59,7 +59,7 @@ fn first_number_after_arrow(event: &EventTokens, arrow: usize) -> Option<usize> 
     None
 }
 
-fn number_columns_at(event: &EventTokens, number: usize) -> Option<Columns> {
+fn columns_if_token_is_number(event: &EventTokens, number: usize) -> Option<Columns> {
     let token = event.get(number)?;
     if token.is_number() {
         Some(token.columns)
@@ -69,7 +69,7 @@ fn number_columns_at(event: &EventTokens, number: usize) -> Option<Columns> {
 }
 
 /// The number after a word, where that word stands.
-fn number_after_word(
+fn columns_of_number_if_after_word(
     event: &EventTokens,
     octets: &[u8],
     number: usize,
@@ -77,14 +77,14 @@ fn number_after_word(
 ) -> Option<Columns> {
     let token = event.get(number)?;
     if octets_in_columns(octets, token.columns) == word {
-        number_columns_at(event, number.saturating_add(1))
+        columns_if_token_is_number(event, number.saturating_add(1))
     } else {
         None
     }
 }
 
 /// The options, from a token on to the last one.
-fn options_columns_from(event: &EventTokens, number: usize) -> Option<Columns> {
+fn options_columns_if_at_token(event: &EventTokens, number: usize) -> Option<Columns> {
     let first: EventToken = event.get(number)?;
     if first.symbol == b'<' {
         Some(event.columns_between(number, event.tokens.len().saturating_sub(1)))

@@ -43,7 +43,7 @@ impl<'a> FieldEdits<'a> {
     /// `AllocError` where a growth is refused.
     pub fn replace_field(&mut self, columns: Columns, field: &[u8]) -> Result<(), AllocError> {
         self.copy_octets_up_to(columns.from)?;
-        self.put_pending_blanks()?;
+        self.put_pending_blanks_keeping_column()?;
         self.out.extend_from_slice(field)?;
         self.at = columns.to;
         self.width = self
@@ -65,7 +65,7 @@ impl<'a> FieldEdits<'a> {
         if blanks < after.len() {
             field_edits.blanks = blanks;
             field_edits.at = field_edits.at.saturating_add(blanks);
-            field_edits.put_pending_blanks()?;
+            field_edits.put_pending_blanks_keeping_column()?;
         }
         let FieldEdits {
             octets,
@@ -85,7 +85,7 @@ impl<'a> FieldEdits<'a> {
             if *octet == b' ' {
                 self.blanks = self.blanks.saturating_add(1);
             } else {
-                self.put_pending_blanks()?;
+                self.put_pending_blanks_keeping_column()?;
                 self.out.push(*octet)?;
             }
         }
@@ -94,7 +94,7 @@ impl<'a> FieldEdits<'a> {
     }
 
     /// Writes the blanks that come next, as many as keep the column.
-    fn put_pending_blanks(&mut self) -> Result<(), AllocError> {
+    fn put_pending_blanks_keeping_column(&mut self) -> Result<(), AllocError> {
         if self.blanks == 0 {
             return Ok(());
         }
@@ -122,7 +122,11 @@ impl<'a> FieldEdits<'a> {
 
 /// The column of what follows the first field of a line, where the line before or after it has it there too, or has it where that
 /// field goes beyond.
-pub fn aligned_second_column(lines: &Lines, number: usize, octets: &[u8]) -> Option<usize> {
+pub fn second_column_if_aligned_with_neighbours(
+    lines: &Lines,
+    number: usize,
+    octets: &[u8],
+) -> Option<usize> {
     let own = second_field_column(octets)?;
     let before = lines.line(number.saturating_sub(1)).unwrap_or(&[]);
     let after = lines.line(number.saturating_add(1)).unwrap_or(&[]);

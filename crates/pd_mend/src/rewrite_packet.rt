@@ -1,11 +1,11 @@
 //! Writes the fields of an awaited packet anew.
 use crate::differences::Differences;
 use crate::event_line::EventLine;
-use crate::packet_columns::{PacketColumns, packet_columns};
+use crate::packet_columns::{PacketColumns, find_columns_of_packet_fields};
 use crate::replacements::FieldEdits;
 use crate::tokens::{Columns, octets_from};
 use itoa::Buffer;
-use pd_print::{PacketParts, sent_packet, write_packet_parts, write_time};
+use pd_print::{PacketParts, render_packet_parts, render_time, script_packet_of_segment};
 use pd_script::Time;
 use pd_seg::Segment;
 use std::alloc::AllocError;
@@ -31,18 +31,18 @@ pub fn rewrite_packet_fields(
     octets: &[u8],
     change: &PacketRewrite<'_>,
 ) -> Result<Option<Vec<u8>>, AllocError> {
-    let Some(field_columns) = packet_columns(&own.tokens, octets) else {
+    let Some(field_columns) = find_columns_of_packet_fields(&own.tokens, octets) else {
         return Ok(None);
     };
-    let column_after_time = own.column_after_time();
+    let column_after_time = own.column_after_time_if_neighbours_align();
     let mut field_edits = FieldEdits::new(own.alloc, octets, column_after_time);
     if let Some(time) = change.time {
-        field_edits.replace_field(field_columns.time, write_time(own.alloc, time)?.as_slice())?;
+        field_edits.replace_field(field_columns.time, render_time(own.alloc, time)?.as_slice())?;
     }
-    let actual = sent_packet(own.alloc, change.segment)?;
-    let parts = write_packet_parts(own.alloc, &actual)?;
-    replace_flags_and_sequence(&mut field_edits, &field_columns, change, &parts)?;
-    replace_ack_and_window(&mut field_edits, &field_columns, change)?;
+    let actual = script_packet_of_segment(own.alloc, change.segment)?;
+    let parts = render_packet_parts(own.alloc, &actual)?;
+    replace_flags_and_sequence_that_differ(&mut field_edits, &field_columns, change, &parts)?;
+    replace_ack_and_window_that_differ(&mut field_edits, &field_columns, change)?;
     if change.fields.options {
         replace_options(&mut field_edits, &field_columns, parts.options.as_slice())?;
     }
@@ -50,7 +50,7 @@ pub fn rewrite_packet_fields(
 }
 
 /// Writes the flags and the sequence numbers anew.
-fn replace_flags_and_sequence(
+fn replace_flags_and_sequence_that_differ(
     field_edits: &mut FieldEdits<'_>,
     field_columns: &PacketColumns,
     change: &PacketRewrite<'_>,
@@ -73,7 +73,7 @@ fn replace_flags_and_sequence(
 }
 
 /// Writes the acknowledgment number and the window anew, where they are written.
-fn replace_ack_and_window(
+fn replace_ack_and_window_that_differ(
     field_edits: &mut FieldEdits<'_>,
     field_columns: &PacketColumns,
     change: &PacketRewrite<'_>,
@@ -125,11 +125,11 @@ fn replace_options(
 /// # Errors
 /// `AllocError` where a growth is refused.
 pub fn event_line_with_time(own: &EventLine<'_>, time: Time) -> Result<Vec<u8>, AllocError> {
-    let column_after_time = own.column_after_time();
+    let column_after_time = own.column_after_time_if_neighbours_align();
     let mut field_edits = FieldEdits::new(own.alloc, own.octets, column_after_time);
     field_edits.replace_field(
         own.tokens.time_columns(),
-        write_time(own.alloc, time)?.as_slice(),
+        render_time(own.alloc, time)?.as_slice(),
     )?;
     field_edits.finish(own.columns().to)
 }

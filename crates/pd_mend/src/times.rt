@@ -1,7 +1,7 @@
 //! Times of expected packets, and lines of which only the time is written anew.
 ghost use Rattle.std.specs.Prelude.{◌≡◌, ◌≤◌, length, IfSome};
 ghost use Rattle.std.specs.List.{prefix_len};
-ghost use Rattle.pd_mend.specs.Mending.{octets_after_time, is_time_or_blank, IsRetiming};
+ghost use Rattle.pd_mend.specs.Mending.{octets_after_time, is_digit_point_plus_or_blank, IsRetiming};
 
 use crate::event_line::EventLine;
 use crate::tokens::{Columns, octets_in_columns};
@@ -30,7 +30,7 @@ pub fn is_in_time(time_range: Option<(u64, u64)>, at: u64, tolerance: u64) -> bo
 
 /// The time of a packet that left at a moment, absolute where another time is, else relative. It is `*` only where the packet left
 /// before the base, by more than a tolerance.
-pub fn written_time_like(like: Time, base: u64, at: u64, tolerance: u64) -> Time {
+pub fn time_like_other_or_any_before_base(like: Time, base: u64, at: u64, tolerance: u64) -> Time {
     match like {
         _ if is_before_base(base, at, tolerance) => Time::Any,
         Time::Absolute(_) | Time::AbsoluteRange(_, _) => Time::Absolute(at.max(base)),
@@ -44,7 +44,7 @@ pub fn is_before_base(base: u64, at: u64, tolerance: u64) -> bool {
 }
 
 /// A time that counts from a base so much earlier; nothing where it doesn't count from one.
-pub fn counted_from_earlier_base(time: Time, span: u64) -> Option<Time> {
+pub fn relative_time_if_counted_from_earlier_base(time: Time, span: u64) -> Option<Time> {
     match time {
         Time::Relative(first) => Some(Time::Relative(first.saturating_add(span))),
         Time::RelativeRange(first, last) => Some(Time::RelativeRange(
@@ -70,7 +70,10 @@ pub fn counted_from_later_base(time: Time, span: u64) -> Time {
 ///
 /// # Errors
 /// `AllocError` where a growth is refused.
-pub fn line_with_time_of(own: &EventLine<'_>, anew: &[u8]) -> Result<Vec<u8>, AllocError> {
+pub fn event_line_with_time_prefix_of_other(
+    own: &EventLine<'_>,
+    anew: &[u8],
+) -> Result<Vec<u8>, AllocError> {
     let time = Columns {
         from: 0,
         to: anew.len().saturating_sub(octets_after_time(anew).len()),
@@ -81,7 +84,11 @@ pub fn line_with_time_of(own: &EventLine<'_>, anew: &[u8]) -> Result<Vec<u8>, Al
 }
 
 /// The edit that writes lines in the place of one; nothing where the last of them isn't that one with another time.
-pub fn retiming_edit(text: &Lines, from: usize, insert: LineList) -> Option<LineEdit>
+pub fn edit_if_last_line_is_line_retimed(
+    text: &Lines,
+    from: usize,
+    insert: LineList,
+) -> Option<LineEdit>
     ensures { IfSome result (IsRetiming text.now) }
 {
     let old = text.line(from)?;
@@ -106,18 +113,18 @@ fn octets_after_time(octets: &[u8]) -> &[u8]
 
 /// How many octets at the beginning of a line may stand in a time, or are blanks.
 fn time_prefix_length(octets: &[u8]) -> usize
-    ensures len { result ≡ prefix_len is_time_or_blank octets.now }
+    ensures len { result ≡ prefix_len is_digit_point_plus_or_blank octets.now }
     ensures within { result ≤ length octets.now }
 {
     octets
         .iter()
-        .take_while(|octet| is_time_or_blank(**octet))
+        .take_while(|octet| is_digit_point_plus_or_blank(**octet))
         .count()
 }
 
 /// Whether an octet may stand in a time, or is a blank.
-fn is_time_or_blank(octet: u8) -> bool
-    ensures { result ≡ is_time_or_blank octet }
+fn is_digit_point_plus_or_blank(octet: u8) -> bool
+    ensures { result ≡ is_digit_point_plus_or_blank octet }
 {
     matches!(octet, b'0'..=b'9' | b'.' | b'+' | b' ' | b'\t')
 }

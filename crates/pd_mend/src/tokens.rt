@@ -34,7 +34,7 @@ pub struct EventTokens {
 ///
 /// # Errors
 /// `AllocError` where a growth is refused.
-pub fn event_tokens(
+pub fn find_nth_event_tokens_if_single_line(
     alloc: Global,
     lines: &Lines,
     first: Place,
@@ -45,7 +45,7 @@ pub fn event_tokens(
         from = place_after_event(alloc, lines, from)?;
     }
     let until = place_after_event(alloc, lines, from)?;
-    tokens_between(alloc, lines, from, until)
+    tokens_between_if_on_one_line(alloc, lines, from, until)
 }
 
 /// The place of what follows the event at a place.
@@ -56,7 +56,7 @@ fn place_after_event(alloc: Global, lines: &Lines, place: Place) -> Result<Place
     }
 }
 
-fn tokens_between(
+fn tokens_between_if_on_one_line(
     alloc: Global,
     lines: &Lines,
     from: Place,
@@ -78,7 +78,7 @@ fn tokens_between(
         if token.from.line != line || token.to.line != line {
             return Ok(None);
         }
-        tokens.push(EventToken::of(&token))?;
+        tokens.push(EventToken::from_lexed_token(&token))?;
         place = token.to;
     }
     Ok(Some(EventTokens { line, tokens }))
@@ -89,7 +89,7 @@ fn is_place_before(place: Place, other: Place) -> bool {
 }
 
 impl EventToken {
-    fn of(token: &Token<'_>) -> EventToken {
+    fn from_lexed_token(token: &Token<'_>) -> EventToken {
         EventToken {
             kind: token.kind,
             symbol: match token.kind {
@@ -175,6 +175,6 @@ pub fn octets_from(octets: &[u8], from: usize) -> &[u8] {
 }
 
 /// Whether octets are blanks alone.
-pub fn is_blank(octets: &[u8]) -> bool {
+pub fn has_only_blanks(octets: &[u8]) -> bool {
     octets.trim_ascii_start().is_empty()
 }

@@ -4,7 +4,7 @@ ghost use Rattle.std.specs.Prelude.{◌≤◌, length};
 use crate::event_line::EventLine;
 use crate::failure_site::FailureSite;
 use crate::mend::{Mend, Target};
-use crate::mender::line_of_verdict;
+use crate::mender::line_of_verdict_or_zero;
 use pd_run::{StopPoint, Verdict, run_all, run_to_failure_on_line};
 use pd_script::{Parsed, parse};
 use pd_settings::Settings;
@@ -18,13 +18,13 @@ pub const NEVER: &[u8] = b"* > FSRP. 0:0(0)";
 ///
 /// # Errors
 /// `AllocError` where a growth is refused.
-pub fn text_with_never_sent(
+pub fn text_with_line_for_never_sent_packet(
     alloc: Global,
     lines: &Lines,
     line: usize,
 ) -> Result<Option<Lines>, AllocError> {
     let mut insert = LineList::new(alloc);
-    insert.push_if_line(NEVER)?;
+    insert.push_unless_newline_inside(NEVER)?;
     let edit = LineEdit {
         from: line,
         remove: 0,
@@ -37,7 +37,7 @@ pub fn text_with_never_sent(
 ///
 /// # Errors
 /// `AllocError` where a growth is refused.
-pub fn find_stop_in_text(
+pub fn run_text_to_failure_on_line(
     alloc: Global,
     lines: &Lines,
     settings: &Settings,
@@ -51,18 +51,24 @@ pub fn find_stop_in_text(
 ///
 /// # Errors
 /// `AllocError` where a growth is refused.
-pub fn stop_before_event(
+pub fn run_to_never_sent_packet_before_event(
     site: &FailureSite<'_>,
     number: usize,
 ) -> Result<Option<StopPoint>, AllocError> {
-    let Some(event) = EventLine::find(site.alloc, site.lines, site.parsed, number)? else {
+    let Some(event) = EventLine::find_nth_event_if_on_one_line(
+        site.alloc,
+        site.lines,
+        site.parsed,
+        number,
+    )?
+    else {
         return Ok(None);
     };
     if !event.is_first_on_line() {
         return Ok(None);
     }
-    match text_with_never_sent(site.alloc, site.lines, event.line)? {
-        Some(lines) => find_stop_in_text(site.alloc, &lines, site.settings, event.line),
+    match text_with_line_for_never_sent_packet(site.alloc, site.lines, event.line)? {
+        Some(lines) => run_text_to_failure_on_line(site.alloc, &lines, site.settings, event.line),
         None => Ok(None),
     }
 }
@@ -94,36 +100,45 @@ impl FailureSite<'_> {
     ///
     /// # Errors
     /// `AllocError` where a growth is refused.
-    pub fn gets_further(&self, mend: &Mend, other: &Mend) -> Result<bool, AllocError> {
+    pub fn gets_further_with_first_mend(
+        &self,
+        mend: &Mend,
+        other: &Mend,
+    ) -> Result<bool, AllocError> {
         match (mend.target, other.target) {
             (Target::Own, Target::Own) => Ok(
-                self.events_left_after_mend(mend)? < self.events_left_after_mend(other)?,
+                self.count_events_left_by_running_with_mend(mend)?
+                    < self.count_events_left_by_running_with_mend(other)?,
             ),
             _ => Ok(false),
         }
     }
 
     /// How many events are left where the run of the text stops with a mend of the event's line.
-    fn events_left_after_mend(&self, mend: &Mend) -> Result<usize, AllocError> {
+    fn count_events_left_by_running_with_mend(&self, mend: &Mend) -> Result<usize, AllocError> {
         match self.with_event_line_replaced(mend.lines.copy()?)? {
-            Some(lines) => self.events_left_in_text(&lines),
+            Some(lines) => self.count_events_left_by_running_text(&lines),
             None => Ok(usize::MAX),
         }
     }
 
     /// How many events are left where the run of a text stops.
-    fn events_left_in_text(&self, lines: &Lines) -> Result<usize, AllocError> {
+    fn count_events_left_by_running_text(&self, lines: &Lines) -> Result<usize, AllocError> {
         match run_all(self.alloc, lines, self.settings)? {
             Verdict::Pass(_) => Ok(0),
-            verdict => self.events_left_at_stop(
+            verdict => self.count_events_left_at_failure_on_line(
                 &parse(self.alloc, lines)?,
-                line_of_verdict(verdict),
+                line_of_verdict_or_zero(verdict),
             ),
         }
     }
 
     /// How many events are left where the run of a script stops at a line.
-    fn events_left_at_stop(&self, parsed: &Parsed, line: usize) -> Result<usize, AllocError>
+    fn count_events_left_at_failure_on_line(
+        &self,
+        parsed: &Parsed,
+        line: usize,
+    ) -> Result<usize, AllocError>
         requires { length parsed.now.events ≤ 4096 }
     {
         match run_to_failure_on_line(self.alloc, parsed, self.settings, line)? {

@@ -8,7 +8,7 @@ use Rattle.pd_seg.specs.declared.option_list.SegOption.{SegOption}
 use Rattle.pd_print.specs.Sent.{options_of}
 use Rattle.std.specs.Fmt.{decimal}
 use Rattle.std.proofs.lemmas.Fmt.{decimal_digit}
-use Rattle.pd_text.specs.Text.{is_line}
+use Rattle.pd_text.specs.Text.{has_no_newline}
 use Rattle.pd_lex.specs.declared.token.Place.{Place}
 use Rattle.pd_lex.specs.declared.token.TokenKind.TheVariants.{Word}
 use Rattle.pd_lex.specs.Octets.{is_word}
@@ -27,7 +27,7 @@ use Rattle.pd_script.specs.declared.packets.Packet.{Packet}
 use Rattle.pd_script.specs.declared.script_events.Action.{Action}
 use Rattle.pd_script.specs.declared.script_events.Event.{Event}
 use Rattle.pd_script.specs.Items.{is_word as is_word_item, text_of}
-use Rattle.pd_script.specs.Values.{error_name, error_named}
+use Rattle.pd_script.specs.Values.{error_name, error_by_name_or_unknown}
 use Rattle.pd_script.specs.Spelling.{Spelling, IsSymbol}
 use Rattle.pd_script.specs.PacketGrammar.{IsOctets, IsPacket}
 use Rattle.pd_script.specs.Grammar.{IsTime, IsMaybeBlockingEnd, IsErrorName, IsExpectedResult, IsAction, IsEvent}
@@ -83,7 +83,7 @@ has_options : (d : Direction) (p : Packet) → FitsDirection d p → arrives d �
 has_options Inbound p fits h = fits.1
 has_options Outbound p fits h = absurd cc
 
-module _ (lines : List (List ℕ)) (plain : list_all is_line lines ≡ true) where
+module _ (lines : List (List ℕ)) (plain : list_all has_no_newline lines ≡ true) where
   -- the packet with the length that it has
   packet_is : (x : Packet) → x.length ≡ x.end - x.start → ◌≡◌ {A = Packet} (record { flags = x.flags; start = x.start; end = x.end; length = x.end - x.start; ack = x.ack; win = x.win; options = x.options }) x
   packet_is x e = ap (λ (n : ℕ). record { flags = x.flags; start = x.start; end = x.end; length = n; ack = x.ack; win = x.win; options = x.options }) (sym e)
@@ -151,12 +151,12 @@ module _ (lines : List (List ℕ)) (plain : list_all is_line lines ≡ true) whe
 
   -- ---- answers
 
-  error_read : (name : ErrorName) (p : Place) (rest : List ℕ) → begins_name (error_name name) ≡ true → list_all is_word (error_name name) ≡ true → error_named (error_name name) ≡ name → ends_word rest ≡ true → IsLeftAt lines p (error_name name ++ rest) → ReadTo lines ErrorName IsErrorName name p rest
+  error_read : (name : ErrorName) (p : Place) (rest : List ℕ) → begins_name (error_name name) ≡ true → list_all is_word (error_name name) ≡ true → error_by_name_or_unknown (error_name name) ≡ name → ends_word rest ≡ true → IsLeftAt lines p (error_name name ++ rest) → ReadTo lines ErrorName IsErrorName name p rest
   error_read name p rest begins all is ends h =
-      one_read lines plain ErrorName is_word_item (λ t. error_named (text_of t)) name p (lexeme (record { kind = Word; text = error_name name; from = p })) rest (word_passed lines plain (error_name name) p rest begins all ends h) refl is
+      one_read lines plain ErrorName is_word_item (λ t. error_by_name_or_unknown (text_of t)) name p (lexeme (record { kind = Word; text = error_name name; from = p })) rest (word_passed lines plain (error_name name) p rest begins all ends h) refl is
 
   name_read : (e : Errno) (p : Place) (rest : List ℕ) → ends_word rest ≡ true → IsLeftAt lines p (error_name (name_of e) ++ rest) → ReadTo lines ErrorName IsErrorName (name_of e) p rest
-  unfolding error_named
+  unfolding error_by_name_or_unknown
   name_read answered.Ebadf p rest ends h = error_read (name_of answered.Ebadf) p rest refl refl refl ends h
   name_read answered.Einval p rest ends h = error_read (name_of answered.Einval) p rest refl refl refl ends h
   name_read answered.Eagain p rest ends h = error_read (name_of answered.Eagain) p rest refl refl refl ends h

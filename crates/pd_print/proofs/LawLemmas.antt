@@ -1,7 +1,7 @@
 -- The laws of what is written.
 use Rattle.std.proofs.Common.{◌≡◌, ℕ, true, List, [], ◌∷◌, refl, sym, subst, arith}
 use Rattle.std.specs.List.{list_all}
-use Rattle.pd_text.specs.Text.{is_line}
+use Rattle.pd_text.specs.Text.{has_no_newline}
 use Rattle.pd_lex.specs.Places.{first_place, IsPlace}
 use Rattle.pd_lex.specs.Tokens.{Item, ending}
 use Rattle.pd_lex.specs.Lexing.{items}
@@ -18,11 +18,11 @@ use Rattle.pd_print.specs.Sent.{options_of}
 use Rattle.pd_print.specs.RoundTrip.{line_after, IsReadAs}
 use Rattle.pd_print.specs.Laws.{script_of_one_event, LinesAreScripts, SentPacketsAgree}
 
-module _ (event : ℕ → Event) (octets : List ℕ) (plain : is_line octets ≡ true) (back : IsReadAs IsEvent event octets) where
+module _ (event : ℕ → Event) (octets : List ℕ) (plain : has_no_newline octets ≡ true) (back : IsReadAs IsEvent event octets) where
   lines : List (List ℕ)
   lines = octets ∷ []
 
-  is_one_line : list_all is_line (octets ∷ []) ≡ true
+  is_one_line : list_all has_no_newline (octets ∷ []) ≡ true
   is_one_line = rw plain refl
 
   first : IsPlace (octets ∷ []) first_place

@@ -7,7 +7,7 @@ use Rattle.std.specs.Fmt.{decimal}
 use Rattle.std.proofs.Math.Seq.{take-append_seam}
 use Rattle.std.proofs.lemmas.List.{length-append}
 use Rattle.std.proofs.lemmas.Bool.Decides.{nat_tests}
-use Rattle.pd_text.specs.Text.{is_line}
+use Rattle.pd_text.specs.Text.{has_no_newline}
 use Rattle.pd_lex.specs.declared.token.Place.{Place}
 use Rattle.pd_lex.specs.declared.token.TokenKind.{TokenKind}
 use Rattle.pd_lex.specs.declared.token.TokenKind.TheVariants.{Int, Word, Symbol}
@@ -19,7 +19,7 @@ use Rattle.pd_lex.specs.Tokens.{Item, lexeme, line_of}
 use Rattle.pd_lex.specs.Lexing.{items}
 use Rattle.pd_lex.proofs.Items.{items_over_gap, items_at_token}
 use Rattle.pd_lex.proofs.Rests.{advance}
-use Rattle.pd_script.specs.Items.{is_int, is_int_from, is_int_of, is_small, is_symbol, is_named, text_of}
+use Rattle.pd_script.specs.Items.{is_next_int_within_u32, is_int_from, is_int_of, is_small, is_symbol, is_named, text_of}
 use Rattle.pd_script.specs.Values.{number}
 use Rattle.pd_script.specs.Spelling.{Spelling, one_of, IsInt}
 use Rattle.pd_script.specs.PacketGrammar.{IsIntFrom, IsIntOf, IsNamed}
@@ -28,25 +28,25 @@ use Rattle.pd_print.proofs.DigitLemmas.{decimal_written}
 use Rattle.pd_print.proofs.Lexemes.{ends_word, ends_number, int_front, word_front, space_front}
 
 -- octets without a newline lead on in their line
-line_stays : (p : Place) (text : List ℕ) → is_line text ≡ true → (place_after p text).line ≡ p.line
+line_stays : (p : Place) (text : List ℕ) → has_no_newline text ≡ true → (place_after p text).line ≡ p.line
 line_stays p [] h = refl
 line_stays p (b ∷ s) h =
     let next : Place = record { line = p.line + 1; at = 0 } in
     let on : Place = record { line = p.line; at = p.at + 1 } in
-    let inside : (b == 10) ≡ false = not-true (b == 10) (and-left (not (b == 10)) (is_line s) h) in
-    ap (λ (t : Bool). (place_after (cond t next on) s).line) inside ∙ line_stays on s (and-right (not (b == 10)) (is_line s) h)
+    let inside : (b == 10) ≡ false = not-true (b == 10) (and-left (not (b == 10)) (has_no_newline s) h) in
+    ap (λ (t : Bool). (place_after (cond t next on) s).line) inside ∙ line_stays on s (and-right (not (b == 10)) (has_no_newline s) h)
 
 digit_inside : (b : ℕ) → is_digit b ≡ true → (b == 10) ≡ false
 digit_inside b h = grind (arith, nat_tests)
 
-pub digits_inside : (ds : List ℕ) → list_all is_digit ds ≡ true → is_line ds ≡ true
+pub digits_inside : (ds : List ℕ) → list_all is_digit ds ≡ true → has_no_newline ds ≡ true
 digits_inside [] h = refl
 digits_inside (b ∷ ds) h = rw (digit_inside b (and-left (is_digit b) (list_all is_digit ds) h), digits_inside ds (and-right (is_digit b) (list_all is_digit ds) h)) refl
 
 word_inside : (b : ℕ) → is_word b ≡ true → (b == 10) ≡ false
 word_inside b h = grind (arith, nat_tests)
 
-pub words_inside : (w : List ℕ) → list_all is_word w ≡ true → is_line w ≡ true
+pub words_inside : (w : List ℕ) → list_all is_word w ≡ true → has_no_newline w ≡ true
 words_inside [] h = refl
 words_inside (b ∷ w) h = rw (word_inside b (and-left (is_word b) (list_all is_word w) h), words_inside w (and-right (is_word b) (list_all is_word w) h)) refl
 
@@ -76,8 +76,8 @@ pub record Over (lines : List (List ℕ)) (p : Place) (rest : List ℕ) : Type 0
   pub left : IsLeftAt lines to rest
   pub same : items lines p ≡ items lines to
 
-module _ (lines : List (List ℕ)) (plain : list_all is_line lines ≡ true) where
-  pub passed : (p : Place) (kind : TokenKind) (text rest : List ℕ) → IsLeftAt lines p (text ++ rest) → is_line text ≡ true → front (text ++ rest) ≡ token kind rest → Passed lines p (lexeme (record { kind = kind; text = text; from = p })) rest
+module _ (lines : List (List ℕ)) (plain : list_all has_no_newline lines ≡ true) where
+  pub passed : (p : Place) (kind : TokenKind) (text rest : List ℕ) → IsLeftAt lines p (text ++ rest) → has_no_newline text ≡ true → front (text ++ rest) ≡ token kind rest → Passed lines p (lexeme (record { kind = kind; text = text; from = p })) rest
   passed p kind text rest h inside e =
       let on = advance lines plain p text rest h.place h.left in
       let here : front (octets_from lines p) ≡ token kind (octets_from lines (place_after p text)) = ap front h.left ∙ (e ∙ ap (token kind) (sym on.left)) in
@@ -124,7 +124,7 @@ module _ (lines : List (List ℕ)) (plain : list_all is_line lines ≡ true) whe
   pub int_read : (n : ℕ) (p : Place) (rest : List ℕ) → n ≤ 4294967295 → ends_number rest ≡ true → IsLeftAt lines p (decimal n ++ rest) → ReadTo lines ℕ IsInt n p rest
   int_read n p rest small ends h =
       let w = decimal_written n (omega arith) in
-      one_read ℕ is_int (λ t. number (text_of t)) n p (lexeme (record { kind = Int; text = decimal n; from = p })) rest (int_passed n p rest (omega arith) ends h) (rw w.value (small_is n small)) w.value
+      one_read ℕ is_next_int_within_u32 (λ t. number (text_of t)) n p (lexeme (record { kind = Int; text = decimal n; from = p })) rest (int_passed n p rest (omega arith) ends h) (rw w.value (small_is n small)) w.value
 
   pub int_from_read : (least n : ℕ) (p : Place) (rest : List ℕ) → least ≤ n → n ≤ 4294967295 → ends_number rest ≡ true → IsLeftAt lines p (decimal n ++ rest) → ReadTo lines ℕ (IsIntFrom least) n p rest
   int_from_read least n p rest order small ends h =

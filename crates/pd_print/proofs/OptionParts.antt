@@ -4,7 +4,7 @@ use Rattle.std.specs.Prelude.{codes, flat_map, ◌≢◌, unwrap_or, ⊤}
 use Rattle.std.specs.List.{list_all, AllByRecursion}
 use Rattle.std.specs.Str.{bytes_eq}
 use Rattle.std.specs.Fmt.{decimal}
-use Rattle.pd_text.specs.Text.{is_line}
+use Rattle.pd_text.specs.Text.{has_no_newline}
 use Rattle.pd_lex.specs.declared.token.Place.{Place}
 use Rattle.pd_lex.specs.declared.token.TokenKind.TheVariants.{Word, Dots}
 use Rattle.pd_lex.specs.Octets.{is_word}
@@ -19,7 +19,7 @@ use Rattle.pd_script.specs.declared.packets.PacketOption.TheVariants as options
 use Rattle.pd_script.specs.declared.packets.Options.{Options}
 use Rattle.pd_script.specs.declared.packets.Options.TheVariants as lists
 use Rattle.pd_script.specs.Items.{is_option, is_dots, text_of}
-use Rattle.pd_script.specs.Values.{option_named}
+use Rattle.pd_script.specs.Values.{find_option_by_name}
 use Rattle.pd_script.specs.Spelling.{IsInt, Repeats}
 use Rattle.pd_script.specs.PacketGrammar.{IsNamed, IsOptionName, IsBlock, AreBlocks, IsOptionRest, IsOption, IsNextOption, AreOptions, IsList, IsInsideOptions, IsOptions}
 use Rattle.pd_print.specs.Options.{block_text, option_text, next_option_text, list_text, options_text}
@@ -49,7 +49,7 @@ options_end lists.Absent rest h = h
 options_end lists.Any rest h = refl
 options_end (lists.Listed os) rest h = refl
 
-module _ (lines : List (List ℕ)) (plain : list_all is_line lines ≡ true) where
+module _ (lines : List (List ℕ)) (plain : list_all has_no_newline lines ≡ true) where
   -- ---- blocks
 
   block_read : (b : SackBlock) (p : Place) (rest : List ℕ) → FitsBlock b → ends_number rest ≡ true → IsLeftAt lines p (block_text b ++ rest) → ReadTo lines SackBlock IsBlock b p rest
@@ -88,9 +88,9 @@ module _ (lines : List (List ℕ)) (plain : list_all is_line lines ≡ true) whe
 
   -- ---- options
 
-  name_read : (w : List ℕ) (name : OptionName) (p : Place) (rest : List ℕ) → begins_name w ≡ true → list_all is_word w ≡ true → option_named w ≡ Some name → ends_word rest ≡ true → IsLeftAt lines p (w ++ rest) → ReadTo lines OptionName IsOptionName name p rest
+  name_read : (w : List ℕ) (name : OptionName) (p : Place) (rest : List ℕ) → begins_name w ≡ true → list_all is_word w ≡ true → find_option_by_name w ≡ Some name → ends_word rest ≡ true → IsLeftAt lines p (w ++ rest) → ReadTo lines OptionName IsOptionName name p rest
   name_read w name p rest begins all is ends h =
-      one_read lines plain OptionName is_option (λ t. unwrap_or (option_named (text_of t)) names.Nop) name p (lexeme (record { kind = Word; text = w; from = p })) rest (word_passed lines plain w p rest begins all ends h) (rw is refl) (rw is refl)
+      one_read lines plain OptionName is_option (λ t. unwrap_or (find_option_by_name (text_of t)) names.Nop) name p (lexeme (record { kind = Word; text = w; from = p })) rest (word_passed lines plain w p rest begins all ends h) (rw is refl) (rw is refl)
 
   -- a number and a word after a blank
   int_after : (n : ℕ) (p : Place) (rest : List ℕ) → IsSmall n → ends_number rest ≡ true → IsLeftAt lines p (32 ∷ (decimal n ++ rest)) → ReadTo lines ℕ IsInt n p rest
@@ -104,7 +104,7 @@ module _ (lines : List (List ℕ)) (plain : list_all is_line lines ≡ true) whe
       spaced lines plain ⊤ (IsNamed w) tt p (w ++ rest) rest gap (named_read lines plain w gap.to rest begins all same ends gap.left)
 
   option_read : (o : PacketOption) (p : Place) (rest : List ℕ) → FitsOption o → ends_number rest ≡ true → IsLeftAt lines p (option_text o ++ rest) → ReadTo lines PacketOption IsOption o p rest
-  unfolding IsOption IsOptionRest option_named
+  unfolding IsOption IsOptionRest find_option_by_name
   option_read (options.Mss n) p rest fits ends h =
       let name = name_read (codes "mss") names.Mss p (32 ∷ (decimal n ++ rest)) refl refl refl refl h in
       let number = int_after n name.to rest fits.0 ends name.left in

@@ -4,7 +4,7 @@ use Rattle.std.specs.Prelude.{codes, IfSome, ◌≢◌}
 use Rattle.std.specs.List.{list_all}
 use Rattle.std.specs.Str.{bytes_eq}
 use Rattle.std.specs.Fmt.{decimal}
-use Rattle.pd_text.specs.Text.{is_line}
+use Rattle.pd_text.specs.Text.{has_no_newline}
 use Rattle.pd_lex.specs.declared.token.Place.{Place}
 use Rattle.pd_lex.specs.declared.token.TokenKind.TheVariants.{Word}
 use Rattle.pd_lex.specs.Octets.{is_word}
@@ -25,7 +25,7 @@ use Rattle.pd_print.proofs.Leaves.{ReadTo, over_space, spaced, one_read, symbol_
 abbrev point : Bool → List ℕ
 point ack = cond ack (46 ∷ []) []
 
-module _ (lines : List (List ℕ)) (plain : list_all is_line lines ≡ true) where
+module _ (lines : List (List ℕ)) (plain : list_all has_no_newline lines ≡ true) where
   lettered : (letters : List ℕ) (ack : Bool) (p : Place) (rest : List ℕ) → begins_name letters ≡ true → list_all is_word letters ≡ true → list_all is_flag_letter letters ≡ true → IsLeftAt lines p (letters ++ (point ack ++ (32 ∷ rest))) → ReadTo lines PacketFlags IsFlags (record (flags_of letters) { ack = ack }) p (32 ∷ rest)
   unfolding IsFlags flags_of
   lettered letters true p rest begins words flags h =

@@ -5,7 +5,7 @@ use Rattle.std.specs.Fmt.{decimal}
 use Rattle.std.proofs.lemmas.List.{append-nil}
 use Rattle.std.proofs.lemmas.List.Folds.{list_all-append}
 use Rattle.std.proofs.lemmas.Bool.Decides.{nat_tests}
-use Rattle.pd_text.specs.Text.{is_line}
+use Rattle.pd_text.specs.Text.{has_no_newline}
 use Rattle.pd_lex.specs.declared.token.Place.{Place}
 use Rattle.pd_lex.specs.declared.token.TokenKind.{TokenKind}
 use Rattle.pd_lex.specs.declared.token.TokenKind.TheVariants.{Int, Decimal}
@@ -37,10 +37,10 @@ lt_is a b h = grind (arith, nat_tests)
 le_is : (a b : ℕ) → a ≤ b → nat_le a b ≡ true
 le_is a b h = grind (arith, nat_tests)
 
-decimal_inside : (whole ds : List ℕ) → is_line whole ≡ true → is_line ds ≡ true → is_line (whole ++ 46 ∷ ds) ≡ true
+decimal_inside : (whole ds : List ℕ) → has_no_newline whole ≡ true → has_no_newline ds ≡ true → has_no_newline (whole ++ 46 ∷ ds) ≡ true
 decimal_inside whole ds h g = list_all-append (λ octet. not (octet == 10)) whole (46 ∷ ds) ∙ rw (h, g) refl
 
-module _ (lines : List (List ℕ)) (plain : list_all is_line lines ≡ true) where
+module _ (lines : List (List ℕ)) (plain : list_all has_no_newline lines ≡ true) where
   seconds_at : (time_us : ℕ) (p : Place) (rest : List ℕ) → time_us < 2 ^ 64 → ends_number rest ≡ true → IsLeftAt lines p (seconds_text time_us ++ rest) → SecondsAt lines time_us p rest
   seconds_at time_us p rest small ends h = by_part (time_us % 1000000) (SecondsAt lines time_us p rest) none some
     where
@@ -53,7 +53,7 @@ module _ (lines : List (List ℕ)) (plain : list_all is_line lines ≡ true) whe
           record {
             kind = Int;
             num = refl;
-            at = passed lines plain p Int (seconds_text time_us) rest h (ap is_line text ∙ digits_inside (decimal (time_us / 1000000)) w.digits) (ap (λ (s : List ℕ). front (s ++ rest)) text ∙ int_front (decimal (time_us / 1000000)) rest (time_us / 1000000) w ends);
+            at = passed lines plain p Int (seconds_text time_us) rest h (ap has_no_newline text ∙ digits_inside (decimal (time_us / 1000000)) w.digits) (ap (λ (s : List ℕ). front (s ++ rest)) text ∙ int_front (decimal (time_us / 1000000)) rest (time_us / 1000000) w ends);
           }
 
       some : (time_us % 1000000 == 0) ≡ false → 0 < time_us % 1000000 → SecondsAt lines time_us p rest
@@ -66,7 +66,7 @@ module _ (lines : List (List ℕ)) (plain : list_all is_line lines ≡ true) whe
             kind = Decimal;
             num = refl;
             at = passed lines plain p Decimal (seconds_text time_us) rest h
-                (ap is_line text ∙ decimal_inside (decimal (time_us / 1000000)) ds (digits_inside (decimal (time_us / 1000000)) w.digits) (digits_inside ds digits))
+                (ap has_no_newline text ∙ decimal_inside (decimal (time_us / 1000000)) ds (digits_inside (decimal (time_us / 1000000)) w.digits) (digits_inside ds digits))
                 (ap (λ (s : List ℕ). front (s ++ rest)) text ∙ (ap front (append_assoc (decimal (time_us / 1000000)) (46 ∷ ds) rest) ∙ decimal_front (decimal (time_us / 1000000)) ds rest (time_us / 1000000) w digits few (number_ends_word rest ends)));
           }
 

@@ -1,6 +1,6 @@
 -- The laws of the text that is written.
 use Rattle.std.specs.Prelude.{◌≡◌, ℕ, List, [], ◌∷◌, None, IsTrue}
-use Rattle.pd_text.specs.Text.{is_line}
+use Rattle.pd_text.specs.Text.{has_no_newline}
 use Rattle.pd_lex.specs.Places.{first_place}
 use Rattle.pd_script.specs.declared.script_events.Event.{Event}
 use Rattle.pd_script.specs.declared.parsed.Parsed.{Parsed}
@@ -20,7 +20,7 @@ script_of_one_event event = record { header = record { items = []; end = first_p
 abbrev pub LinesAreScripts : Type 0
 LinesAreScripts =
     (event : ℕ → Event) (octets : List ℕ)
-    → IsTrue (is_line octets) → IsReadAs IsEvent event octets → script_of (octets ∷ []) ≡ script_of_one_event (event 1)
+    → IsTrue (has_no_newline octets) → IsReadAs IsEvent event octets → script_of (octets ∷ []) ≡ script_of_one_event (event 1)
 
 -- a segment that was sent agrees with the packet that is written of it, in each field and at any time
 abbrev pub SentPacketsAgree : Type 0

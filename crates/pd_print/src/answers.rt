@@ -13,7 +13,7 @@ use std::alloc::{AllocError, Global};
 ///
 /// # Errors
 /// `AllocError` where a growth is refused.
-pub fn write_answer(alloc: Global, answer: Answer) -> Result<Vec<u8>, AllocError>
+pub fn render_answer(alloc: Global, answer: Answer) -> Result<Vec<u8>, AllocError>
     ensures octets { IfOk result (λ text. text.items ≡ answer_text answer) }
 
     // At the end of a line just this result is read.

@@ -4,13 +4,13 @@ ghost use Rattle.pd_print.specs.Laws.{LinesAreScripts, SentPacketsAgree};
 use pd_script::law_scripts_are_grammatical;
 
 /// A law: octets that are read as an event are, as a text of one line, a script with just this event.
-pub fn law_lines_are_scripts()
+pub fn law_event_line_is_one_event_script()
     ensures { LinesAreScripts }
 {
     law_scripts_are_grammatical();
 }
 
 /// A law: a segment that was sent agrees, in each field, with the packet that is written of it.
-pub fn law_sent_packets_agree()
+pub fn law_printed_packet_agrees_with_segment()
     ensures { SentPacketsAgree }
 {}

@@ -1,15 +1,15 @@
 //! Packets, answers and moments as octets of the script language.
 //!
-//! `write_event` writes an event in which a packet arrives or leaves (`Direction`), and
-//! `write_sent_event` one of a segment that was sent, with every field written (`sent_packet`).
-//! `write_answer` writes the result of a call, `write_time` and `write_fixed_seconds` times. `PacketParts` has
-//! the parts of a packet apart, for a caller that puts each into a column. A function that begins with `put_`
-//! adds octets to others.
+//! `render_packet_event` writes an event in which a packet arrives or leaves (`Direction`), and
+//! `render_sent_segment_event` one of a segment that was sent, with every field written
+//! (`script_packet_of_segment`). `render_answer` writes the result of a call, `render_time` and
+//! `render_seconds_with_six_decimals` times. `PacketParts` has the parts of a packet apart, for a
+//! caller that puts each into a column. A function that begins with `put_` adds octets to others.
 //!
 //! The text that is written is read as it was meant. Wherever the octets are the rest of a line of a text,
 //! the grammar reads just that value: `IsReadAs` (specs/RoundTrip.antt), for all that the language
 //! can write (`FitsTime`, `FitsPacket`, `FitsSegment`). A segment agrees in each field with the
-//! packet that is written of it: the law `law_sent_packets_agree`.
+//! packet that is written of it: the law `law_printed_packet_agrees_with_segment`.
 //!
 //! Why it is so:
 //! - Clauses `octets` say which octets are written, and clauses `back` how the grammar reads them.
@@ -17,8 +17,8 @@
 //!   a line that is put into a script, is the one that was meant.
 //! - `IsReadAs` is about the rest of a line, since octets that follow could make the last token
 //!   longer.
-//! - `write_time` writes no more decimals than a time takes, as people write scripts;
-//!   `write_fixed_seconds` always writes six.
+//! - `render_time` writes no more decimals than a time takes, as people write scripts;
+//!   `render_seconds_with_six_decimals` always writes six.
 #![tactic(auto)]
 
 mod answers;
@@ -30,9 +30,9 @@ mod parts;
 mod sent_packets;
 mod times;
 
-pub use answers::{put_answer, write_answer};
-pub use laws::{law_lines_are_scripts, law_sent_packets_agree};
-pub use packet_texts::{Direction, put_event, write_event};
-pub use parts::{PacketParts, write_packet_parts};
-pub use sent_packets::{sent_packet, write_sent_event};
-pub use times::{put_time, write_fixed_seconds, write_time};
+pub use answers::{put_answer, render_answer};
+pub use laws::{law_event_line_is_one_event_script, law_printed_packet_agrees_with_segment};
+pub use packet_texts::{Direction, put_event, render_packet_event};
+pub use parts::{PacketParts, render_packet_parts};
+pub use sent_packets::{render_sent_segment_event, script_packet_of_segment};
+pub use times::{put_time, render_seconds_with_six_decimals, render_time};

@@ -16,14 +16,17 @@ pub fn put_options(out: &mut Vec<u8>, options: &Options) -> Result<(), AllocErro
         Options::Any => out.extend_from_slice(b" <...>"),
         Options::Listed(options) => {
             out.extend_from_slice(b" <")?;
-            put_option_list(out, options.as_slice())?;
+            put_comma_separated_options(out, options.as_slice())?;
             out.extend_from_slice(b">")
         }
     }
 }
 
 /// Adds options with commas between them.
-fn put_option_list(out: &mut Vec<u8>, options: &[PacketOption]) -> Result<(), AllocError>
+fn put_comma_separated_options(
+    out: &mut Vec<u8>,
+    options: &[PacketOption],
+) -> Result<(), AllocError>
     ensures { OnOk result (out.new.items ≡ out.old.items ++ list_text options.now) }
 {
     match options {
@@ -51,14 +54,14 @@ fn put_option(out: &mut Vec<u8>, option: &PacketOption) -> Result<(), AllocError
     ensures { OnOk result (out.new.items ≡ out.old.items ++ option_text option.now) }
 {
     match option {
-        PacketOption::Mss(mss) => put_word_and_number(out, b"mss ", *mss),
-        PacketOption::Wscale(shift) => put_word_and_number(out, b"wscale ", *shift),
+        PacketOption::Mss(mss) => put_prefix_and_number(out, b"mss ", *mss),
+        PacketOption::Wscale(shift) => put_prefix_and_number(out, b"wscale ", *shift),
         PacketOption::SackOk => out.extend_from_slice(b"sackOK"),
         PacketOption::Nop => out.extend_from_slice(b"nop"),
         PacketOption::Eol => out.extend_from_slice(b"eol"),
         PacketOption::Timestamp(value, echo) => {
-            put_word_and_number(out, b"TS val ", *value)?;
-            put_word_and_number(out, b" ecr ", *echo)
+            put_prefix_and_number(out, b"TS val ", *value)?;
+            put_prefix_and_number(out, b" ecr ", *echo)
         }
         PacketOption::Sack(blocks) => {
             out.extend_from_slice(b"sack")?;
@@ -72,14 +75,14 @@ fn put_sack_blocks(out: &mut Vec<u8>, blocks: &[SackBlock]) -> Result<(), AllocE
     ensures { OnOk result (out.new.items ≡ out.old.items ++ flat_map block_text blocks.now) }
 {
     for block in blocks {
-        put_word_and_number(out, b" ", block.left)?;
-        put_word_and_number(out, b":", block.right)?;
+        put_prefix_and_number(out, b" ", block.left)?;
+        put_prefix_and_number(out, b":", block.right)?;
     }
     Ok(())
 }
 
 /// Adds a word and a number.
-fn put_word_and_number(out: &mut Vec<u8>, word: &[u8], n: u64) -> Result<(), AllocError>
+fn put_prefix_and_number(out: &mut Vec<u8>, word: &[u8], n: u64) -> Result<(), AllocError>
     ensures { OnOk result (out.new.items ≡ out.old.items ++ (word.now ++ decimal n)) }
 {
     out.extend_from_slice(word)?;

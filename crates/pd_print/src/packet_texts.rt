@@ -1,7 +1,7 @@
 //! Events in which a packet arrives or leaves.
 ghost use Rattle.std.specs.Prelude.{◌≡◌, ◌++◌, IfOk, OnOk, IsTrue};
 ghost use Rattle.std.specs.Fmt.{decimal};
-ghost use Rattle.pd_text.specs.Text.{is_line};
+ghost use Rattle.pd_text.specs.Text.{has_no_newline};
 ghost use Rattle.pd_script.specs.Grammar.{IsEvent};
 ghost use Rattle.pd_print.specs.Packets.{arrow, flag_letter, point_text, flags_text, octets_text, fields_text, numbered, packet_text, event_text, action_of};
 ghost use Rattle.pd_print.specs.RoundTrip.{IsReadAs, FitsTime, FitsPacket, event_of};
@@ -25,7 +25,7 @@ pub enum Direction {
 ///
 /// # Errors
 /// `AllocError` where a growth is refused.
-pub fn write_event(
+pub fn render_packet_event(
     alloc: Global,
     time: Time,
     direction: Direction,
@@ -34,7 +34,7 @@ pub fn write_event(
     ensures octets { IfOk result (λ text. text.items ≡ event_text time direction packet.now) }
 
     // It has no newline.
-    ensures line { IfOk result (λ text. FitsTime time → FitsPacket direction packet.now → IsTrue (is_line text.items)) }
+    ensures line { IfOk result (λ text. FitsTime time → FitsPacket direction packet.now → IsTrue (has_no_newline text.items)) }
 
     // At the end of a line just this event is read.
     ensures back { IfOk result (λ text. FitsTime time → FitsPacket direction packet.now → IsReadAs IsEvent (event_of time (action_of direction packet.now)) text.items) }
@@ -119,9 +119,9 @@ fn put_ack_point_or_dash(out: &mut Vec<u8>, flags: PacketFlags) -> Result<(), Al
 pub fn put_seq_range(out: &mut Vec<u8>, packet: &Packet) -> Result<(), AllocError>
     ensures { OnOk result (out.new.items ≡ out.old.items ++ octets_text packet.now) }
 {
-    put_word_and_number(out, b" ", packet.start)?;
-    put_word_and_number(out, b":", packet.end)?;
-    put_word_and_number(out, b"(", packet.length)?;
+    put_prefix_and_number(out, b" ", packet.start)?;
+    put_prefix_and_number(out, b":", packet.end)?;
+    put_prefix_and_number(out, b"(", packet.length)?;
     out.extend_from_slice(b")")
 }
 
@@ -129,12 +129,12 @@ pub fn put_seq_range(out: &mut Vec<u8>, packet: &Packet) -> Result<(), AllocErro
 fn put_ack_and_win(out: &mut Vec<u8>, packet: &Packet) -> Result<(), AllocError>
     ensures { OnOk result (out.new.items ≡ out.old.items ++ fields_text packet.now) }
 {
-    put_word_and_number_if_any(out, b" ack ", packet.ack)?;
-    put_word_and_number_if_any(out, b" win ", packet.win)
+    put_prefix_and_number_if_any(out, b" ack ", packet.ack)?;
+    put_prefix_and_number_if_any(out, b" win ", packet.win)
 }
 
 /// Adds a word and a number where one is written.
-pub fn put_word_and_number_if_any(
+pub fn put_prefix_and_number_if_any(
     out: &mut Vec<u8>,
     word: &[u8],
     number: Option<u32>,
@@ -143,12 +143,12 @@ pub fn put_word_and_number_if_any(
 {
     match number {
         None => Ok(()),
-        Some(number) => put_word_and_number(out, word, number),
+        Some(number) => put_prefix_and_number(out, word, number),
     }
 }
 
 /// Adds a word and a number.
-fn put_word_and_number(out: &mut Vec<u8>, word: &[u8], n: u32) -> Result<(), AllocError>
+fn put_prefix_and_number(out: &mut Vec<u8>, word: &[u8], n: u32) -> Result<(), AllocError>
     ensures { OnOk result (out.new.items ≡ out.old.items ++ (word.now ++ decimal n)) }
 {
     out.extend_from_slice(word)?;

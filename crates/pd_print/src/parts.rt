@@ -4,7 +4,7 @@ ghost use Rattle.pd_print.specs.Options.{options_text};
 ghost use Rattle.pd_print.specs.Packets.{flags_text, octets_text, numbered};
 
 use crate::option_texts::put_options;
-use crate::packet_texts::{put_flags, put_seq_range, put_word_and_number_if_any};
+use crate::packet_texts::{put_flags, put_prefix_and_number_if_any, put_seq_range};
 use pd_script::Packet;
 use std::alloc::{AllocError, Global};
 
@@ -28,7 +28,7 @@ pub struct PacketParts {
 ///
 /// # Errors
 /// `AllocError` where a growth is refused.
-pub fn write_packet_parts(alloc: Global, packet: &Packet) -> Result<PacketParts, AllocError>
+pub fn render_packet_parts(alloc: Global, packet: &Packet) -> Result<PacketParts, AllocError>
     ensures flags { IfOk result (λ parts. parts.flags.items ≡ flags_text packet.now.flags) }
     ensures octets { IfOk result (λ parts. parts.octets.items ≡ octets_text packet.now) }
     ensures ack { IfOk result (λ parts. parts.ack.items ≡ numbered (codes " ack ") packet.now.ack) }
@@ -40,9 +40,9 @@ pub fn write_packet_parts(alloc: Global, packet: &Packet) -> Result<PacketParts,
     let mut octets = Vec::new(alloc);
     put_seq_range(&mut octets, packet)?;
     let mut ack = Vec::new(alloc);
-    put_word_and_number_if_any(&mut ack, b" ack ", packet.ack)?;
+    put_prefix_and_number_if_any(&mut ack, b" ack ", packet.ack)?;
     let mut win = Vec::new(alloc);
-    put_word_and_number_if_any(&mut win, b" win ", packet.win)?;
+    put_prefix_and_number_if_any(&mut win, b" win ", packet.win)?;
     let mut options = Vec::new(alloc);
     put_options(&mut options, &packet.options)?;
     Ok(PacketParts {

@@ -2,13 +2,13 @@
 ghost use Rattle.std.specs.Prelude.{◌≡◌, ◌≤◌, map, IfOk, IsTrue};
 ghost use Rattle.std.specs.List.{AllByRecursion};
 ghost use Rattle.pd_match.specs.Agreement.{block_of, option_of};
-ghost use Rattle.pd_text.specs.Text.{is_line};
+ghost use Rattle.pd_text.specs.Text.{has_no_newline};
 ghost use Rattle.pd_script.specs.Grammar.{IsEvent};
 ghost use Rattle.pd_print.specs.Packets.{event_text, action_of};
 ghost use Rattle.pd_print.specs.Sent.{packet_of, options_of, written_flags};
 ghost use Rattle.pd_print.specs.RoundTrip.{IsReadAs, FitsTime, IsSmall, FitsBlock, IsSmallOption, AreSmallOptions, FitsPacket, FitsSegment, event_of};
 
-use crate::packet_texts::{Direction, write_event};
+use crate::packet_texts::{Direction, render_packet_event};
 use pd_script::{
     OptionList, Options, Packet, PacketFlags, PacketOption, SackBlock, SackBlockList, Time,
 };
@@ -19,7 +19,7 @@ use std::alloc::{AllocError, Global};
 ///
 /// # Errors
 /// `AllocError` where a growth is refused.
-pub fn sent_packet(alloc: Global, segment: &Segment) -> Result<Packet, AllocError>
+pub fn script_packet_of_segment(alloc: Global, segment: &Segment) -> Result<Packet, AllocError>
     ensures packet { IfOk result (λ packet. packet ≡ packet_of segment.now) }
 
     // A script can write it, where its end is no less than its start and each SACK option has a block.
@@ -28,9 +28,9 @@ pub fn sent_packet(alloc: Global, segment: &Segment) -> Result<Packet, AllocErro
     Ok(Packet {
         flags: script_flags_of(&segment.flags),
         start: segment.start,
-        end: same_number_in_range(segment.end),
+        end: unchanged_number_proven_in_range(segment.end),
         length: segment.data_len(),
-        ack: Some(same_number_in_range(segment.ack)),
+        ack: Some(unchanged_number_proven_in_range(segment.ack)),
         win: Some(u32::from(segment.win)),
         options: script_options_of(alloc, &segment.options)?,
     })
@@ -40,21 +40,25 @@ pub fn sent_packet(alloc: Global, segment: &Segment) -> Result<Packet, AllocErro
 ///
 /// # Errors
 /// `AllocError` where a growth is refused.
-pub fn write_sent_event(alloc: Global, time: Time, segment: &Segment) -> Result<Vec<u8>, AllocError>
+pub fn render_sent_segment_event(
+    alloc: Global,
+    time: Time,
+    segment: &Segment,
+) -> Result<Vec<u8>, AllocError>
     ensures octets { IfOk result (λ text. text.items ≡ event_text time Direction.Outbound (packet_of segment.now)) }
 
     // It has no newline.
-    ensures line { IfOk result (λ text. FitsTime time → FitsSegment segment.now → IsTrue (is_line text.items)) }
+    ensures line { IfOk result (λ text. FitsTime time → FitsSegment segment.now → IsTrue (has_no_newline text.items)) }
 
     // At the end of a line just this event is read.
     ensures back { IfOk result (λ text. FitsTime time → FitsSegment segment.now → IsReadAs IsEvent (event_of time (action_of Direction.Outbound (packet_of segment.now))) text.items) }
 {
-    let packet = sent_packet(alloc, segment)?;
-    write_event(alloc, time, Direction::Outbound, &packet)
+    let packet = script_packet_of_segment(alloc, segment)?;
+    render_packet_event(alloc, time, Direction::Outbound, &packet)
 }
 
 /// The number, which has 32 bits, so that a script can write it.
-fn same_number_in_range(number: u32) -> u32
+fn unchanged_number_proven_in_range(number: u32) -> u32
     ensures same { result ≡ number }
     ensures small { IsSmall result }
 {

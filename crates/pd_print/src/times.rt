@@ -16,7 +16,7 @@ const SECOND: u64 = 1_000_000;
 ///
 /// # Errors
 /// `AllocError` where a growth is refused.
-pub fn write_fixed_seconds(alloc: Global, time_us: u64) -> Result<Vec<u8>, AllocError>
+pub fn render_seconds_with_six_decimals(alloc: Global, time_us: u64) -> Result<Vec<u8>, AllocError>
     ensures octets { IfOk result (λ text. text.items ≡ fixed_seconds_text time_us) }
 
     // As a script's seconds it is just this moment.
@@ -33,7 +33,7 @@ pub fn write_fixed_seconds(alloc: Global, time_us: u64) -> Result<Vec<u8>, Alloc
 ///
 /// # Errors
 /// `AllocError` where a growth is refused.
-pub fn write_time(alloc: Global, time: Time) -> Result<Vec<u8>, AllocError>
+pub fn render_time(alloc: Global, time: Time) -> Result<Vec<u8>, AllocError>
     ensures octets { IfOk result (λ text. text.items ≡ time_text time) }
 
     // At the end of a line just this time is read.
@@ -72,11 +72,11 @@ fn put_signed_seconds(out: &mut Vec<u8>, sign: &[u8], time: u64) -> Result<(), A
 {
     out.extend_from_slice(sign)?;
     put_number(out, time / SECOND)?;
-    put_fraction(out, time % SECOND)
+    put_decimals_of_microseconds_if_nonzero(out, time % SECOND)
 }
 
 /// Adds a point and the decimals of so many microseconds, unless all are zeros.
-fn put_fraction(out: &mut Vec<u8>, part: u64) -> Result<(), AllocError>
+fn put_decimals_of_microseconds_if_nonzero(out: &mut Vec<u8>, part: u64) -> Result<(), AllocError>
     ensures { OnOk result (out.new.items ≡ out.old.items ++ fraction_text part) }
 {
     if part == 0 {

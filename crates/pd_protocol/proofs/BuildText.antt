@@ -5,11 +5,11 @@ use Rattle.std.specs.Io.KnownBytes.{prepend_known}
 use Rattle.std.proofs.lemmas.List.Sums.{sum_by-append}
 use Rattle.std.proofs.lemmas.Bool.Decides.{nat_tests}
 use Rattle.std.proofs.Math.Seq.{take-append_seam, drop-append_seam}
-use Rattle.pd_text.specs.Text.{fits_text, octets_of, is_line}
+use Rattle.pd_text.specs.Text.{fits_text, octets_of, has_no_newline}
 use Rattle.pd_protocol.specs.LinePieces.{NoNewline, CutsPiece}
 use Rattle.pd_protocol.specs.Input.{IfKnown}
 use Rattle.pd_protocol.specs.NextCommand.{is_empty_line, AddsLine, TakesLines, LinesFault, ParsesLine, HasCommandLine, Gives, FaultIn}
-use Rattle.pd_protocol.specs.Commands.{InputItem, does, fitted, edit_of, with_lines, items, commands}
+use Rattle.pd_protocol.specs.Commands.{InputItem, does, fitted, line_edit_if_lines_are_some, with_lines, items, commands}
 use Rattle.pd_protocol.specs.declared.command_line.CommandLine.{CommandLine}
 use Rattle.pd_protocol.specs.declared.command_line.CommandLine.TheVariants as asks
 use Rattle.pd_protocol.specs.declared.command.Command.{Command}
@@ -21,7 +21,7 @@ use Rattle.pd_protocol.proofs.Known.{known_map}
 
 -- lines
 
-pub is_line_of : (line : List ℕ) → NoNewline line → is_line line ≡ true
+pub is_line_of : (line : List ℕ) → NoNewline line → has_no_newline line ≡ true
 is_line_of [] h = refl
 is_line_of (x ∷ line) h = let e : (x == 10) ≡ false = h 0 0 (omega arith) in rw e (is_line_of line (λ k d lt. h (suc k) d (omega arith)))
 
@@ -125,8 +125,8 @@ gives_add name count t u x y z e a b =
     let same : u ≡ t = e ∙ (ap (λ (o : Option (List (List ℕ))). option_and_then fitted o) b.1 ∙ (fitted_again (take count (lines y)) ∙ sym b.1)) in
     rw same (gives_lines count (λ text. made.Add name text) t x y z a.0 b)
 
-pub gives_edit : (name : List ℕ) (from remove count : ℕ) (t : Option (List (List ℕ))) (x y z : List ℕ) → HasCommandLine (Some (asks.Edit name from remove count)) x y → TakesLines count t y z → Gives (Some (made.Edit name (edit_of from remove t))) x z
-gives_edit name from remove count t x y z a b = gives_lines count (λ insert. made.Edit name (edit_of from remove insert)) t x y z a.0 b
+pub gives_edit : (name : List ℕ) (from remove count : ℕ) (t : Option (List (List ℕ))) (x y z : List ℕ) → HasCommandLine (Some (asks.Edit name from remove count)) x y → TakesLines count t y z → Gives (Some (made.Edit name (line_edit_if_lines_are_some from remove t))) x z
+gives_edit name from remove count t x y z a b = gives_lines count (λ insert. made.Edit name (line_edit_if_lines_are_some from remove insert)) t x y z a.0 b
 
 fault_lines : (count : ℕ) (command : Option (List (List ℕ)) → Command) (e : ServeFault) (x y : List ℕ) → commands x ≡ with_lines count (lines y) command (λ n. items n (lines y)) → LinesFault e count y → FaultIn e (commands x)
 fault_lines count command Truncated x y a b = a ∙ if_lt count (length (lines y)) _ _ b
@@ -142,4 +142,4 @@ pub fault_add : (name : List ℕ) (count : ℕ) (e : ServeFault) (x y : List ℕ
 fault_add name count e x y a b = fault_lines count (λ text. made.Add name text) e x y a.0 b
 
 pub fault_edit : (name : List ℕ) (from remove count : ℕ) (e : ServeFault) (x y : List ℕ) → HasCommandLine (Some (asks.Edit name from remove count)) x y → LinesFault e count y → FaultIn e (commands x)
-fault_edit name from remove count e x y a b = fault_lines count (λ insert. made.Edit name (edit_of from remove insert)) e x y a.0 b
+fault_edit name from remove count e x y a b = fault_lines count (λ insert. made.Edit name (line_edit_if_lines_are_some from remove insert)) e x y a.0 b

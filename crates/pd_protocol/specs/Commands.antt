@@ -16,8 +16,8 @@ abbrev pub fitted : List (List ℕ) → Option (List (List ℕ))
 fitted lines = if fits_text lines then Some lines else None
 
 -- an edit that inserts lines, where these are within the limits of a text
-abbrev pub edit_of : ℕ → ℕ → Option (List (List ℕ)) → Option LineEdit
-edit_of from remove insert = option_map (λ lines. record { from = from; remove = remove; insert = lines }) insert
+abbrev pub line_edit_if_lines_are_some : ℕ → ℕ → Option (List (List ℕ)) → Option LineEdit
+line_edit_if_lines_are_some from remove insert = option_map (λ lines. record { from = from; remove = remove; insert = lines }) insert
 
 -- an item of an input: a command, or a fault in its place
 pub data InputItem : Type 0 where
@@ -34,7 +34,7 @@ abbrev pub items_at : CommandLine → List (List ℕ) → (ℕ → List InputIte
 items_at asks.Empty after rest = rest 0
 items_at asks.Bad after rest = stops BadCommand ∷ []
 items_at (asks.Add name count) after rest = with_lines count after (λ text. Add name text) rest
-items_at (asks.Edit name from remove count) after rest = with_lines count after (λ insert. Edit name (edit_of from remove insert)) rest
+items_at (asks.Edit name from remove count) after rest = with_lines count after (λ insert. Edit name (line_edit_if_lines_are_some from remove insert)) rest
 items_at (asks.Remove name) after rest = does (Remove name) ∷ rest 0
 items_at (asks.Set key value) after rest = does (Set key value) ∷ rest 0
 items_at asks.Show after rest = does Show ∷ rest 0

@@ -96,25 +96,25 @@ without_sign [] = []
 without_sign (octet ∷ word) = if octet == 43 || octet == 45 then word else octet ∷ word
 
 -- the number that an argument writes; 0 where that is no number up to 64, which `clap` doesn't let through
-abbrev pub worker_count_in : List ℕ → ℕ
-worker_count_in word =
+abbrev pub worker_count_or_zero : List ℕ → ℕ
+worker_count_or_zero word =
     let digits = without_sign word in
     if are_digits digits && nat_le (number_of digits) 64 then number_of digits else 0
 
 -- how many workers arguments ask for: none where `--workers` isn't written
 abbrev pub worker_count : List Text → ℕ
-worker_count words = worker_count_in (option_text pdregress (codes "workers") words)
+worker_count words = worker_count_or_zero (option_text pdregress (codes "workers") words)
 
 -- the number that an argument writes; 64 where that is no number from 1 to 1,024, which `clap` doesn't let through
-abbrev pub cache_size_in : List ℕ → ℕ
-cache_size_in word =
+abbrev pub cache_size_in_range_or_64 : List ℕ → ℕ
+cache_size_in_range_or_64 word =
     let digits = without_sign word in
     let number = number_of digits in
     if are_digits digits && nat_le 1 number && nat_le number 1024 then number else 64
 
 -- how many tracks arguments ask for
 abbrev pub cache_size : List Text → ℕ
-cache_size words = cache_size_in (option_text pdregress (codes "cache") words)
+cache_size words = cache_size_in_range_or_64 (option_text pdregress (codes "cache") words)
 
 -- the names of scripts that arguments single out
 abbrev pub only_names : List Text → List Text

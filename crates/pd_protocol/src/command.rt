@@ -3,7 +3,7 @@ ghost use Rattle.std.specs.Prelude.{◌≡◌, ◌≤◌, ◌<◌, ℕ, List, []
 ghost use Rattle.std.specs.Bool.{OnTrue, OnFalse};
 ghost use Rattle.pd_protocol.specs.Input.{IfKnown, to_come, work_left, Spends, IsCaused};
 ghost use Rattle.pd_protocol.specs.NextLines.{TakesLine, IsOfLine, IsLine, IsIo};
-ghost use Rattle.pd_protocol.specs.Commands.{fitted, edit_of, commands};
+ghost use Rattle.pd_protocol.specs.Commands.{fitted, line_edit_if_lines_are_some, commands};
 ghost use Rattle.pd_protocol.specs.NextCommand.{AddsLine, TakesLines, LinesFault, ParsesLine, HasCommandLine, Gives, FaultIn};
 
 use crate::command_line::{CommandLine, MAX_COMMAND_LINE};
@@ -44,14 +44,14 @@ pub fn next_command<R: InputStream>(
     ensures reads { IfOk result (λ c. IfSome c (λ _. IfKnown (Spends line_reader.old line_reader.new) (R.remaining reader.old) (R.remaining reader.new))) }
     ensures cause { IfErr result (IsCaused (R.has_failed reader.new) line_reader.old line_reader.new (R.remaining reader.old)) }
 {
-    match next_command_line(alloc, line_reader, reader)? {
+    match next_nonempty_command_line(alloc, line_reader, reader)? {
         Some(CommandLine::Add(name, count)) => {
-            let lines = take_lines(alloc, line_reader, reader, count)?;
-            Ok(Some(Command::Add(name, text_within_limits(lines))))
+            let lines = read_all_lines_or_none_if_too_large(alloc, line_reader, reader, count)?;
+            Ok(Some(Command::Add(name, text_of_lines_or_none_if_over_limits(lines))))
         }
         Some(CommandLine::Edit(name, from, remove, count)) => {
-            let lines = take_lines(alloc, line_reader, reader, count)?;
-            Ok(Some(Command::Edit(name, edit_of(from, remove, lines))))
+            let lines = read_all_lines_or_none_if_too_large(alloc, line_reader, reader, count)?;
+            Ok(Some(Command::Edit(name, line_edit_if_lines_are_some(from, remove, lines))))
         }
         Some(CommandLine::Remove(name)) => Ok(Some(Command::Remove(name))),
         Some(CommandLine::Set(key, value)) => Ok(Some(Command::Set(key, value))),
@@ -63,7 +63,7 @@ pub fn next_command<R: InputStream>(
 }
 
 /// Takes lines up to one that asks for something.
-fn next_command_line<R: InputStream>(
+fn next_nonempty_command_line<R: InputStream>(
     alloc: Global,
     line_reader: &mut LineReader,
     reader: &mut R,
@@ -77,8 +77,8 @@ fn next_command_line<R: InputStream>(
     ensures cause { IfErr result (IsCaused (R.has_failed reader.new) line_reader.old line_reader.new (R.remaining reader.old)) }
 {
     loop {
-        let taken = line_reader.next_line(alloc, reader, MAX_COMMAND_LINE)?;
-        match parse_line(alloc, line_reader, taken)? {
+        let taken = line_reader.next_line_or_long_or_end(alloc, reader, MAX_COMMAND_LINE)?;
+        match parse_command_line_if_not_end(alloc, line_reader, taken)? {
             Some(command_line) if command_line.is_empty_line() => {}
             asked => return Ok(asked),
         }
@@ -86,7 +86,7 @@ fn next_command_line<R: InputStream>(
 }
 
 /// The command of a line that was taken, or none at the end.
-fn parse_line(
+fn parse_command_line_if_not_end(
     alloc: Global,
     line_reader: &mut LineReader,
     taken: NextLine,
@@ -107,7 +107,7 @@ fn parse_line(
 }
 
 /// Takes the lines of a command, to their end also where they are over the limits.
-fn take_lines<R: InputStream>(
+fn read_all_lines_or_none_if_too_large<R: InputStream>(
     alloc: Global,
     line_reader: &mut LineReader,
     reader: &mut R,
@@ -124,19 +124,19 @@ fn take_lines<R: InputStream>(
 {
     let mut text_builder = TextBuilder::with_line_capacity(alloc, count)?;
     for _turn in 0..count {
-        if add_buffered_line(line_reader, &mut text_builder)? {
+        if add_next_line_if_buffered_whole(line_reader, &mut text_builder)? {
             continue;
         }
-        match line_reader.next_line(alloc, reader, MAX_OCTETS)? {
+        match line_reader.next_line_or_long_or_end(alloc, reader, MAX_OCTETS)? {
             NextLine::Whole(line) => {
-                text_builder.add_line(line.as_slice())?;
+                text_builder.add_line_or_mark_too_large(line.as_slice())?;
                 line_reader.recycle(line);
             }
-            NextLine::Long => text_builder.add_oversized_line(),
+            NextLine::Long => text_builder.mark_text_too_large(),
             NextLine::End => return Err(ServeFault::Truncated),
         }
     }
-    Ok(text_builder.into_lines())
+    Ok(text_builder.into_lines_unless_too_large())
 }
 
 /// Adds the next line to those gathered, where it lies whole in what was read.
@@ -144,7 +144,7 @@ fn take_lines<R: InputStream>(
 /// # Errors
 /// `AllocError` where a growth is refused.
 #[inline(always)]
-fn add_buffered_line(
+fn add_next_line_if_buffered_whole(
     line_reader: &mut LineReader,
     text_builder: &mut TextBuilder,
 ) -> Result<bool, AllocError>
@@ -153,17 +153,17 @@ fn add_buffered_line(
     ensures reads { line_reader.new.1 ≡ line_reader.old.1 }
     ensures less { IfOk result (λ _. work_left line_reader.new ≤ work_left line_reader.old) }
 {
-    let Some(line) = line_reader.buffered_line() else {
+    let Some(line) = line_reader.peek_next_line_if_buffered() else {
         return Ok(false);
     };
     let octets = line.len() + 1;
-    text_builder.add_line(without_carriage_return(line))?;
+    text_builder.add_line_or_mark_too_large(without_carriage_return(line))?;
     line_reader.consume(octets);
     Ok(true)
 }
 
 /// The text of lines; none where there are none, or they are over the limits of a text.
-pub fn text_within_limits(lines: Option<LineList>) -> Option<Lines>
+pub fn text_of_lines_or_none_if_over_limits(lines: Option<LineList>) -> Option<Lines>
     ensures { result ≡ option_and_then fitted lines }
 {
     match lines {
@@ -176,8 +176,12 @@ pub fn text_within_limits(lines: Option<LineList>) -> Option<Lines>
 }
 
 /// The edit that inserts these lines.
-fn edit_of(from: usize, remove: usize, lines: Option<LineList>) -> Option<LineEdit>
-    ensures { result ≡ edit_of from remove lines }
+fn line_edit_if_lines_are_some(
+    from: usize,
+    remove: usize,
+    lines: Option<LineList>,
+) -> Option<LineEdit>
+    ensures { result ≡ line_edit_if_lines_are_some from remove lines }
 {
     match lines {
         Some(insert) => Some(LineEdit {

@@ -4,7 +4,7 @@ ghost use Rattle.pd_protocol.specs.Words.{words_of, is_count, number_of};
 ghost use Rattle.pd_protocol.specs.CommandLines.{command_line_of, command_line_by, adds, edits, removes, sets, bad_if_arguments};
 ghost use Rattle.pd_protocol.specs.NextCommand.{is_empty_line};
 
-use crate::numbers::{parse_count, parse_value};
+use crate::numbers::{parse_count_of_at_most_six_digits, parse_setting_number_boolean_or_word};
 use pd_settings::Value;
 use pd_text::Name;
 use std::alloc::{AllocError, Global};
@@ -76,8 +76,8 @@ impl CommandLine {
         ensures { IfOk result (λ command_line. command_line ≡ adds (map (λ w. w.now) words.now)) }
     {
         match words {
-            [name, lines] => match parse_count(lines) {
-                Some(lines) => Ok(CommandLine::Add(name_from_octets(alloc, name)?, lines)),
+            [name, lines] => match parse_count_of_at_most_six_digits(lines) {
+                Some(lines) => Ok(CommandLine::Add(copy_octets_as_name(alloc, name)?, lines)),
                 None => Ok(CommandLine::Bad),
             },
             _ => Ok(CommandLine::Bad),
@@ -90,7 +90,7 @@ impl CommandLine {
         match words {
             [name, from, remove, lines] => match parse_edit_numbers(from, remove, lines) {
                 Some((from, remove, lines)) => {
-                    Ok(CommandLine::Edit(name_from_octets(alloc, name)?, from, remove, lines))
+                    Ok(CommandLine::Edit(copy_octets_as_name(alloc, name)?, from, remove, lines))
                 }
                 None => Ok(CommandLine::Bad),
             },
@@ -102,7 +102,7 @@ impl CommandLine {
         ensures { IfOk result (λ command_line. command_line ≡ removes (map (λ w. w.now) words.now)) }
     {
         match words {
-            [name] => Ok(CommandLine::Remove(name_from_octets(alloc, name)?)),
+            [name] => Ok(CommandLine::Remove(copy_octets_as_name(alloc, name)?)),
             _ => Ok(CommandLine::Bad),
         }
     }
@@ -111,7 +111,10 @@ impl CommandLine {
         ensures { IfOk result (λ command_line. command_line ≡ sets (map (λ w. w.now) words.now)) }
     {
         match words {
-            [key, word] => Ok(CommandLine::Set(name_from_octets(alloc, key)?, parse_value(word))),
+            [key, word] => Ok(CommandLine::Set(
+                copy_octets_as_name(alloc, key)?,
+                parse_setting_number_boolean_or_word(word),
+            )),
             _ => Ok(CommandLine::Bad),
         }
     }
@@ -141,9 +144,9 @@ fn parse_edit_numbers(from: &[u8], remove: &[u8], lines: &[u8]) -> Option<(usize
         result ≡ (if good then Some numbers else None) }
 {
     Some((
-        parse_count(from)?,
-        parse_count(remove)?,
-        parse_count(lines)?,
+        parse_count_of_at_most_six_digits(from)?,
+        parse_count_of_at_most_six_digits(remove)?,
+        parse_count_of_at_most_six_digits(lines)?,
     ))
 }
 
@@ -157,7 +160,7 @@ fn words(alloc: Global, line: &[u8]) -> Result<Vec<&[u8]>, AllocError>
 }
 
 /// A name of its own with these octets.
-fn name_from_octets(alloc: Global, octets: &[u8]) -> Result<Name, AllocError>
+fn copy_octets_as_name(alloc: Global, octets: &[u8]) -> Result<Name, AllocError>
     ensures { IfOk result (λ name. name ≡ octets.now) }
 {
     let mut own = Vec::new(alloc);

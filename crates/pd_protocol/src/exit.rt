@@ -25,7 +25,7 @@ pub struct Exit {
 pub const FAULT_STATUS: u8 = 2;
 
 /// Writes `clap`'s message on arguments that it refuses to the program of this name.
-pub fn exit_with_clap_error<E: Write>(
+pub fn write_clap_error_and_return_fault_exit<E: Write>(
     alloc: Global,
     program: &str,
     error: &Error,
@@ -44,15 +44,19 @@ pub fn exit_with_clap_error<E: Write>(
             };
         }
     }
-    exit_with_fault(program, err, ProgramFault::Serving(ServeFault::OutOfMemory))
+    write_fault_and_return_fault_exit(program, err, ProgramFault::Serving(ServeFault::OutOfMemory))
 }
 
 /// Ends a run of the program of this name at a fault: writes its line.
-pub fn exit_with_fault<E: Write>(program: &str, err: &mut E, fault: ProgramFault) -> Exit
+pub fn write_fault_and_return_fault_exit<E: Write>(
+    program: &str,
+    err: &mut E,
+    fault: ProgramFault,
+) -> Exit
     ensures status { result.status ≡ 2 }
     ensures stderr { WritesTo result.stderr_ok (E.contents err.old) (E.contents err.new) (fault_line program.now fault) }
 {
-    let stderr_ok = try_write_program_line(program, err, fault.text());
+    let stderr_ok = try_write_line_after_program_name(program, err, fault.number_and_name());
     Exit {
         status: FAULT_STATUS,
         stderr_ok,
@@ -60,7 +64,11 @@ pub fn exit_with_fault<E: Write>(program: &str, err: &mut E, fault: ProgramFault
 }
 
 /// Writes a text after the name of a program, as a line.
-pub(crate) fn try_write_program_line<E: Write>(program: &str, err: &mut E, text: &str) -> bool
+pub(crate) fn try_write_line_after_program_name<E: Write>(
+    program: &str,
+    err: &mut E,
+    text: &str,
+) -> bool
     ensures { WritesTo result (E.contents err.old) (E.contents err.new) (line_of program.now text.now) }
 {
     if !try_write(err, program.as_bytes()) {

@@ -29,7 +29,7 @@ pub enum ServeFault {
 
 impl ServeFault {
     /// Its number and its name, as they are printed.
-    pub fn text(self) -> &'static str
+    pub fn number_and_name(self) -> &'static str
         ensures { result.now ≡ serve_fault_text self }
     {
         match self {
@@ -52,7 +52,7 @@ impl fmt::Display for ServeFault {
     ghost output = { λ fault. Some (serve_fault_text fault) };
 
     fn fmt<W: fmt::Write>(&self, f: &mut fmt::Formatter<W>) -> fmt::Result {
-        f.write_str(self.text())
+        f.write_str(self.number_and_name())
     }
 }
 

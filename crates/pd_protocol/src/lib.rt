@@ -3,7 +3,8 @@
 //! `arguments` gives the arguments of a call, and `options` reads those of `pdregress` into `Options`.
 //! `settings_from_toml` reads the text of the settings. An `LineReader` takes lines off a reader
 //! (`InputStream`) block by block, and `next_command` takes the next `Command`. A `ServeFault` or a
-//! `ProgramFault` says why a program stops; `exit_with_fault` and `exit_with_clap_error` write it and give the `Exit`.
+//! `ProgramFault` says why a program stops; `write_fault_and_return_fault_exit` and
+//! `write_clap_error_and_return_fault_exit` write it and give the `Exit`.
 //!
 //! The commands of an input are defined on its octets alone, however its reader cuts them: `commands`
 //! (specs/Commands.antt). Arguments are taken exactly as `clap`'s own clauses take them: `HasChosen`
@@ -39,17 +40,19 @@ mod settings_text;
 mod text_builder;
 mod verdicts;
 
-pub use command::{Command, next_command, text_within_limits};
-pub use exit::{Exit, FAULT_STATUS, exit_with_clap_error, exit_with_fault};
+pub use command::{Command, next_command, text_of_lines_or_none_if_over_limits};
+pub use exit::{
+    Exit, FAULT_STATUS, write_clap_error_and_return_fault_exit, write_fault_and_return_fault_exit,
+};
 pub use faults::ServeFault;
 pub use input_stream::InputStream;
 pub use line_reader::{LineReader, NextLine, without_carriage_return};
-pub use option_table::settings_option;
-pub use output_stream::{try_write, write_all};
-pub use parse_options::{is_true, options, refusal_together};
-pub use program_arguments::{arguments, exit_with_unreadable_arguments};
+pub use option_table::toml_settings_text_option;
+pub use output_stream::{try_write, write_all_without_flush};
+pub use parse_options::{clap_error_for_conflicting_arguments, is_word_true, options};
+pub use program_arguments::{arguments, write_arguments_unreadable_and_return_exit};
 pub use program_faults::ProgramFault;
 pub use program_options::{ExplainOptions, Options};
 pub use settings_text::settings_from_toml;
 pub use text_builder::TextBuilder;
-pub use verdicts::{put_verdict, put_word_and_number};
+pub use verdicts::{put_prefix_and_number, put_verdict};

@@ -70,7 +70,7 @@ impl LineReader {
     ///
     /// # Errors
     /// `Read` where a read fails or 1,048,576 were made; `OutOfMemory` where a growth is refused.
-    pub fn next_line<R: InputStream>(
+    pub fn next_line_or_long_or_end<R: InputStream>(
         &mut self,
         alloc: Global,
         reader: &mut R,
@@ -88,12 +88,12 @@ impl LineReader {
         ensures cause { IfErr result (IsCaused (R.has_failed reader.new) self.old self.new (R.remaining reader.old)) }
     {
         let (line, found) = self.read_capped_line(alloc, reader, limit + 2)?;
-        Ok(classify_line(line, found, limit))
+        Ok(classify_line_as_whole_long_or_end(line, found, limit))
     }
 
     /// The line that comes next, without its newline, where it lies whole in what was read.
     #[inline(always)]
-    pub fn buffered_line(&self) -> Option<&[u8]>
+    pub fn peek_next_line_if_buffered(&self) -> Option<&[u8]>
         ensures some { IfSome result (λ line. CutsPiece line.now true self.now.0 (drop (length line.now + 1) self.now.0)) }
         ensures none { IfNone result (NoNewline self.now.0) }
     {
@@ -149,17 +149,21 @@ impl LineReader {
     {
         let mut line = self.recycled_line(alloc);
         loop {
-            if self.take_piece(&mut line, cap)? {
+            if self.take_octets_up_to_newline_capped(&mut line, cap)? {
                 return Ok((line, true));
             }
-            if !self.refill(reader)? {
+            if !self.refill_if_input_remains(reader)? {
                 return Ok((line, false));
             }
         }
     }
 
     /// Moves what is before the first newline to the line, as far as it fits. The newline goes.
-    fn take_piece(&mut self, line: &mut Vec<u8>, cap: usize) -> Result<bool, ServeFault>
+    fn take_octets_up_to_newline_capped(
+        &mut self,
+        line: &mut Vec<u8>,
+        cap: usize,
+    ) -> Result<bool, ServeFault>
         requires { length line.old.items ≤ cap }
         ensures piece { IfOk result (λ found. (piece : List ℕ) × CutsPiece piece found self.old.0 self.new.0 × (line.new.items ≡ take cap (line.old.items ++ piece))) }
         ensures reads { self.new.1 ≡ self.old.1 }
@@ -167,7 +171,7 @@ impl LineReader {
         ensures room { length line.new.items ≤ cap }
         ensures only { IfErr result (λ fault. fault ≡ ServeFault.OutOfMemory) }
     {
-        if let Some(piece) = self.buffered_line() {
+        if let Some(piece) = self.peek_next_line_if_buffered() {
             let octets = piece.len() + 1;
             extend_capped(line, piece, cap)?;
             self.consume(octets);
@@ -179,7 +183,10 @@ impl LineReader {
     }
 
     /// Reads once more, where nothing is left, and so one read fewer may be made. False says that the input has ended.
-    fn refill<R: InputStream>(&mut self, reader: &mut R) -> Result<bool, ServeFault>
+    fn refill_if_input_remains<R: InputStream>(
+        &mut self,
+        reader: &mut R,
+    ) -> Result<bool, ServeFault>
         requires { self.old.0 ≡ [] }
         ensures more { IfOk result (λ _. Consumes (R.remaining reader.old) (R.remaining reader.new) self.new.0) }
         ensures end { IfOk result (λ more. OnFalse more (IsAtEnd (R.remaining reader.new) × (self.new.0 ≡ []))) }
@@ -228,7 +235,7 @@ fn extend_capped(line: &mut Vec<u8>, piece: &[u8], cap: usize) -> Result<(), All
 }
 
 /// The line that was taken, where these first octets were kept of it, or of the last one.
-fn classify_line(line: Vec<u8>, found: bool, limit: usize) -> NextLine
+fn classify_line_as_whole_long_or_end(line: Vec<u8>, found: bool, limit: usize) -> NextLine
     ensures line { (whole old new : List ℕ) → NoNewline whole → line.items ≡ take (limit + 2) whole → Cuts whole found old new → TakesLine limit result old new }
     ensures octets { NoNewline line.items → IsOfLine result }
 {

@@ -18,13 +18,13 @@ pub fn parse_number(word: &[u8]) -> Option<u64>
         if !digit.is_ascii_digit() {
             return None;
         }
-        n = with_digit(n, *digit)?;
+        n = append_digit_if_fits(n, *digit)?;
     }
     Some(n)
 }
 
 /// A number with one digit more after it, where it fits.
-fn with_digit(n: u64, digit: u8) -> Option<u64>
+fn append_digit_if_fits(n: u64, digit: u8) -> Option<u64>
     requires { is_ascii_digit digit ≡ true }
     ensures { let more = n * 10 + (digit - 48) in
         result ≡ (if nat_lt more (2 ^ 64) then Some more else None) }
@@ -33,7 +33,7 @@ fn with_digit(n: u64, digit: u8) -> Option<u64>
 }
 
 /// The number that one to six digits write.
-pub fn parse_count(word: &[u8]) -> Option<usize>
+pub fn parse_count_of_at_most_six_digits(word: &[u8]) -> Option<usize>
     ensures { result ≡ (if is_count word.now then Some (number_of word.now) else None) }
 {
     if word.len() > 6 {
@@ -46,7 +46,7 @@ pub fn parse_count(word: &[u8]) -> Option<usize>
 }
 
 /// The value that a word writes for a setting.
-pub fn parse_value(word: &[u8]) -> Value
+pub fn parse_setting_number_boolean_or_word(word: &[u8]) -> Value
     ensures { result ≡ value_of word.now }
 {
     if let Some(n) = parse_number(word) {
@@ -58,5 +58,5 @@ pub fn parse_value(word: &[u8]) -> Value
     if word == b"false".as_slice() {
         return Value::Boolean(false);
     }
-    Value::from_word(word)
+    Value::from_word_or_other(word)
 }

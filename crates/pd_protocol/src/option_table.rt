@@ -38,22 +38,25 @@ pub(crate) fn command_without_conflicts<'a>(alloc: Global) -> Result<Command<'a>
     ensures words { IfOk result (λ command. app_of command ≡ pdregress) }
     ensures memory { IfErr result (λ error. kind_of error ≡ ErrorKind.OutOfMemory) }
 {
-    let command = base_command(alloc)?;
-    Ok(add_other_options(alloc, command)?)
+    let command = command_with_settings_and_cache(alloc)?;
+    Ok(add_options_beyond_settings_and_cache(alloc, command)?)
 }
 
 /// A command that takes settings and a cache, with each other option.
-fn add_other_options<'a>(alloc: Global, command: Command<'a>) -> Result<Command<'a>, AllocError>
+fn add_options_beyond_settings_and_cache<'a>(
+    alloc: Global,
+    command: Command<'a>,
+) -> Result<Command<'a>, AllocError>
     requires { app_of command ≡ with_rule (with_rule (new_app (codes "pdregress")) settings_rule) cache_rule }
     ensures { IfOk result (λ whole. app_of whole ≡ pdregress) }
 {
     command
         .arg(workers_option(alloc))?
-        .arg(steps_option(alloc))?
-        .arg(explain_option(alloc))?
-        .arg(only_option(alloc))?
+        .arg(step_counts_on_stderr_flag(alloc))?
+        .arg(explain_failures_flag(alloc))?
+        .arg(repeatable_only_name_option(alloc))?
         .arg(json_option(alloc))?
-        .arg(leftovers_option(alloc))
+        .arg(explain_leftovers_flag(alloc))
 }
 
 /// The options that may be written together. Where `--workers` may be beside all of them, `clap` asks for `--explain` beside
@@ -62,24 +65,24 @@ pub(crate) fn command_with_conflicts<'a>(
     alloc: Global,
     are_workers_apart: bool,
 ) -> Result<Command<'a>, Error> {
-    let command = base_command(alloc)?;
+    let command = command_with_settings_and_cache(alloc)?;
     let mut options = Vec::new(alloc);
-    push_options(alloc, &mut options, are_workers_apart)?;
+    push_options_beyond_settings_and_cache(alloc, &mut options, are_workers_apart)?;
     Ok(command.args(options)?)
 }
 
 /// Adds each other option, with what it may be beside.
-fn push_options<'a>(
+fn push_options_beyond_settings_and_cache<'a>(
     alloc: Global,
     options: &mut Vec<Arg<'a>>,
     are_workers_apart: bool,
 ) -> Result<(), AllocError> {
     options.push(workers_option_with_conflicts(alloc, are_workers_apart)?)?;
-    options.push(steps_option(alloc))?;
-    options.push(explain_option(alloc))?;
-    options.push(only_option(alloc).requires_arg("explain")?)?;
+    options.push(step_counts_on_stderr_flag(alloc))?;
+    options.push(explain_failures_flag(alloc))?;
+    options.push(repeatable_only_name_option(alloc).requires_arg("explain")?)?;
     options.push(json_option(alloc).requires_arg("explain")?)?;
-    options.push(leftovers_option(alloc).requires_arg("explain")?)?;
+    options.push(explain_leftovers_flag(alloc).requires_arg("explain")?)?;
     Ok(())
 }
 
@@ -97,14 +100,14 @@ fn workers_option_with_conflicts<'a>(
 }
 
 /// A command that takes settings and a cache.
-fn base_command<'a>(alloc: Global) -> Result<Command<'a>, Error>
+fn command_with_settings_and_cache<'a>(alloc: Global) -> Result<Command<'a>, Error>
     ensures words { IfOk result (λ command. app_of command ≡ with_rule (with_rule (new_app (codes "pdregress")) settings_rule) cache_rule) }
     ensures memory { IfErr result (λ error. kind_of error ≡ ErrorKind.OutOfMemory) }
 {
     Ok(
         Command::new(alloc, "pdregress")
             .bin_name("pdregress")?
-            .arg(settings_option(alloc))?
+            .arg(toml_settings_text_option(alloc))?
             .arg(cache_option(alloc))?
             .about(ABOUT)
             .after_help(COMMANDS),
@@ -112,7 +115,7 @@ fn base_command<'a>(alloc: Global) -> Result<Command<'a>, Error>
 }
 
 /// `--settings TEXT`: one text, empty where it isn't written.
-pub fn settings_option<'a>(alloc: Global) -> Arg<'a>
+pub fn toml_settings_text_option<'a>(alloc: Global) -> Arg<'a>
     ensures rule { rule_of result ≡ settings_rule }
     ensures local { result.global ≡ false }
 {
@@ -152,7 +155,7 @@ fn workers_option<'a>(alloc: Global) -> Arg<'a>
         .action(ArgAction::Set)
 }
 
-fn steps_option<'a>(alloc: Global) -> Arg<'a>
+fn step_counts_on_stderr_flag<'a>(alloc: Global) -> Arg<'a>
     ensures rule { rule_of result ≡ steps_rule }
     ensures local { result.global ≡ false }
 {
@@ -162,7 +165,7 @@ fn steps_option<'a>(alloc: Global) -> Arg<'a>
         .action(ArgAction::SetTrue)
 }
 
-fn explain_option<'a>(alloc: Global) -> Arg<'a>
+fn explain_failures_flag<'a>(alloc: Global) -> Arg<'a>
     ensures rule { rule_of result ≡ explain_rule }
     ensures local { result.global ≡ false }
 {
@@ -172,7 +175,7 @@ fn explain_option<'a>(alloc: Global) -> Arg<'a>
         .action(ArgAction::SetTrue)
 }
 
-fn only_option<'a>(alloc: Global) -> Arg<'a>
+fn repeatable_only_name_option<'a>(alloc: Global) -> Arg<'a>
     ensures rule { rule_of result ≡ only_rule }
     ensures local { result.global ≡ false }
 {
@@ -193,7 +196,7 @@ fn json_option<'a>(alloc: Global) -> Arg<'a>
         .action(ArgAction::SetTrue)
 }
 
-fn leftovers_option<'a>(alloc: Global) -> Arg<'a>
+fn explain_leftovers_flag<'a>(alloc: Global) -> Arg<'a>
     ensures rule { rule_of result ≡ leftovers_rule }
     ensures local { result.global ≡ false }
 {

@@ -10,7 +10,7 @@ use std::io::Write;
 ///
 /// # Errors
 /// `Write` where a call fails or takes no octet: then only the first of the octets were written.
-pub fn write_all<W: Write>(writer: &mut W, octets: &[u8]) -> Result<(), ServeFault>
+pub fn write_all_without_flush<W: Write>(writer: &mut W, octets: &[u8]) -> Result<(), ServeFault>
     ensures ok { OnOk result (Appends (W.contents writer.old) (W.contents writer.new) octets.now) }
     ensures err { let old = W.contents writer.old in
         OnErr result ((n : ℕ) × Appends old (W.contents writer.new) (take n octets.now)) }
@@ -31,5 +31,5 @@ pub fn write_all<W: Write>(writer: &mut W, octets: &[u8]) -> Result<(), ServeFau
 pub fn try_write<E: Write>(err: &mut E, octets: &[u8]) -> bool
     ensures { WritesTo result (E.contents err.old) (E.contents err.new) octets.now }
 {
-    write_all(err, octets).is_ok()
+    write_all_without_flush(err, octets).is_ok()
 }

@@ -2,7 +2,7 @@
 ghost use Rattle.std.specs.Prelude.{bytes_eq, codes, ◌≡◌, ◌≢◌, ◌⊎◌, ◌≤◌, ◌||◌, List, [], IfOk, IfErr, IfSome, map, option_map, unwrap_or};
 ghost use Rattle.clap.specs.Words.{HasMatchesOf, Text, found_of, kind_of, matched_of, raw_values};
 ghost use Rattle.pd_protocol.specs.ChosenOptions.{names_of, report_options, HasChosen};
-ghost use Rattle.pd_protocol.specs.OptionTable.{pdregress, without_sign, worker_count_in, cache_size_in, is_option_given, has_flag, asks_json, asks_leftovers, are_in_conflict, lack_explain, refusals};
+ghost use Rattle.pd_protocol.specs.OptionTable.{pdregress, without_sign, worker_count_or_zero, cache_size_in_range_or_64, is_option_given, has_flag, asks_json, asks_leftovers, are_in_conflict, lack_explain, refusals};
 
 use crate::numbers::parse_number;
 use crate::option_table::{command_with_conflicts, command_without_conflicts};
@@ -26,27 +26,30 @@ pub fn options<'a, S: AsStr>(alloc: Global, words: &'a [S]) -> Result<Options<'a
 {
     let command = command_without_conflicts(alloc)?;
     let matches = command.try_get_matches_from(words)?;
-    if are_options_conflicting(&matches) {
+    if are_options_conflicting_or_lacking_explain(&matches) {
         let with_conflicts = command_with_conflicts(alloc, has_workers_conflict(&matches));
-        return Err(refusal_together(with_conflicts, words));
+        return Err(clap_error_for_conflicting_arguments(with_conflicts, words));
     }
     Ok(chosen_options(alloc, &matches)?)
 }
 
 /// The error with which `clap` refuses arguments of which it takes each by itself, by a command that knows which options go together; or
 /// why there is no such command.
-pub fn refusal_together<'a, S: AsStr>(
+pub fn clap_error_for_conflicting_arguments<'a, S: AsStr>(
     command: Result<Command<'a>, Error>,
     arguments: &'a [S],
 ) -> Error {
     match command {
-        Ok(mut command) => clap_error_of(&mut command, arguments),
+        Ok(mut command) => clap_error_or_conflict_error(&mut command, arguments),
         Err(error) => error,
     }
 }
 
 /// The message of a command on arguments that it refuses, or that are refused all the same.
-fn clap_error_of<'a, S: AsStr>(command: &mut Command<'a>, arguments: &'a [S]) -> Error {
+fn clap_error_or_conflict_error<'a, S: AsStr>(
+    command: &mut Command<'a>,
+    arguments: &'a [S],
+) -> Error {
     match command.try_get_matches_from_mut(arguments) {
         Ok(_) => conflict_error(command),
         Err(error) => error,
@@ -65,10 +68,10 @@ fn conflict_error(command: &mut Command<'_>) -> Error {
 }
 
 /// Whether arguments are refused together of which each may be written.
-fn are_options_conflicting(matches: &ArgMatches<'_>) -> bool
+fn are_options_conflicting_or_lacking_explain(matches: &ArgMatches<'_>) -> bool
     ensures { (words : List Text) → HasMatchesOf pdregress words matches.now → result ≡ (are_in_conflict words || lack_explain words) }
 {
-    has_workers_conflict(matches) || lacks_explain(matches)
+    has_workers_conflict(matches) || has_option_that_lacks_explain(matches)
 }
 
 /// Whether `--workers` is beside an option that goes without workers.
@@ -80,7 +83,7 @@ fn has_workers_conflict(matches: &ArgMatches<'_>) -> bool
 }
 
 /// Whether an option is without `--explain`, to which it belongs.
-fn lacks_explain(matches: &ArgMatches<'_>) -> bool
+fn has_option_that_lacks_explain(matches: &ArgMatches<'_>) -> bool
     ensures { (words : List Text) → HasMatchesOf pdregress words matches.now → result ≡ lack_explain words }
 {
     !has_flag(matches, "explain")
@@ -100,7 +103,7 @@ fn is_option_given(matches: &ArgMatches<'_>, name: &str) -> bool
 fn has_flag(matches: &ArgMatches<'_>, name: &str) -> bool
     ensures { (words : List Text) → HasMatchesOf pdregress words matches.now → result ≡ has_flag name.now words }
 {
-    is_true(matches.get_str(name).unwrap_or("").as_bytes())
+    is_word_true(matches.get_str(name).unwrap_or("").as_bytes())
 }
 
 /// The options that arguments choose which aren't refused.
@@ -110,18 +113,18 @@ fn chosen_options<'a>(alloc: Global, matches: &ArgMatches<'a>) -> Result<Options
     ensures some { IfOk result (λ options. 1 ≤ options.cache) }
     ensures most { IfOk result (λ options. options.cache ≤ 1024) }
 {
-    let explain = explain_options(alloc, matches)?;
+    let explain = explain_options_if_flag_given(alloc, matches)?;
     Ok(Options {
         settings: matches.get_str("settings").unwrap_or(""),
-        workers: worker_count_in(matches.get_str("workers").unwrap_or("").as_bytes()),
-        cache: cache_size_in(matches.get_str("cache").unwrap_or("").as_bytes()),
+        workers: worker_count_or_zero(matches.get_str("workers").unwrap_or("").as_bytes()),
+        cache: cache_size_in_range_or_64(matches.get_str("cache").unwrap_or("").as_bytes()),
         steps: has_flag(matches, "steps"),
         explain,
     })
 }
 
 /// The scripts that arguments have explained, and how.
-fn explain_options<'a>(
+fn explain_options_if_flag_given<'a>(
     alloc: Global,
     matches: &ArgMatches<'a>,
 ) -> Result<Option<ExplainOptions<'a>>, AllocError>
@@ -149,15 +152,15 @@ fn only_names<'a>(alloc: Global, matches: &ArgMatches<'a>) -> Result<Vec<&'a str
 }
 
 /// Whether an argument is that of a flag which is written.
-pub fn is_true(word: &[u8]) -> bool
+pub fn is_word_true(word: &[u8]) -> bool
     ensures { result ≡ bytes_eq word.now (codes "true") }
 {
     word == b"true".as_slice()
 }
 
 /// The number of workers that an argument writes, which `clap` let through.
-fn worker_count_in(word: &[u8]) -> usize
-    ensures count { result ≡ worker_count_in word.now }
+fn worker_count_or_zero(word: &[u8]) -> usize
+    ensures count { result ≡ worker_count_or_zero word.now }
     ensures few { result ≤ 64 }
 {
     match parse_number(without_sign(word)) {
@@ -167,8 +170,8 @@ fn worker_count_in(word: &[u8]) -> usize
 }
 
 /// The number of tracks that an argument writes, which `clap` let through.
-fn cache_size_in(word: &[u8]) -> usize
-    ensures size { result ≡ cache_size_in word.now }
+fn cache_size_in_range_or_64(word: &[u8]) -> usize
+    ensures size { result ≡ cache_size_in_range_or_64 word.now }
     ensures some { 1 ≤ result }
     ensures most { result ≤ 1024 }
 {

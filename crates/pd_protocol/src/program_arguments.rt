@@ -4,7 +4,9 @@ ghost use Rattle.std.specs.IoError.{error_kind};
 ghost use Rattle.pd_protocol.specs.ProgramFaults.{fault_line, line_of};
 ghost use Rattle.pd_protocol.specs.WriterOutput.{WritesTo};
 
-use crate::exit::{Exit, FAULT_STATUS, exit_with_fault, try_write_program_line};
+use crate::exit::{
+    Exit, FAULT_STATUS, try_write_line_after_program_name, write_fault_and_return_fault_exit,
+};
 use crate::faults::ServeFault;
 use crate::program_faults::ProgramFault;
 use std::env::Env;
@@ -21,7 +23,7 @@ pub fn arguments<H: Env + AllocGlobal>(rt: &H) -> io::Result<Vec<String>> {
 }
 
 /// Writes why the arguments of a call of the program of this name could not be read.
-pub fn exit_with_unreadable_arguments<E: Write>(
+pub fn write_arguments_unreadable_and_return_exit<E: Write>(
     program: &str,
     error: &io::Error,
     err: &mut E,
@@ -33,9 +35,17 @@ pub fn exit_with_unreadable_arguments<E: Write>(
         error_kind error.now ≢ ErrorKind.OutOfMemory → WritesTo result.stderr_ok (E.contents err.old) (E.contents err.new) line }
 {
     if error.kind() == ErrorKind::OutOfMemory {
-        return exit_with_fault(program, err, ProgramFault::Serving(ServeFault::OutOfMemory));
+        return write_fault_and_return_fault_exit(
+            program,
+            err,
+            ProgramFault::Serving(ServeFault::OutOfMemory),
+        );
     }
-    let stderr_ok = try_write_program_line(program, err, "the arguments can't be read as text");
+    let stderr_ok = try_write_line_after_program_name(
+        program,
+        err,
+        "the arguments can't be read as text",
+    );
     Exit {
         status: FAULT_STATUS,
         stderr_ok,

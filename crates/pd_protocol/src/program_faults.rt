@@ -19,14 +19,14 @@ pub enum ProgramFault {
 
 impl ProgramFault {
     /// Its number and its name, as they are printed.
-    pub fn text(self) -> &'static str
+    pub fn number_and_name(self) -> &'static str
         ensures { result.now ≡ fault_text self }
     {
         match self {
-            ProgramFault::UnknownKey => SettingsFault::UnknownKey.text(),
-            ProgramFault::BadValue => SettingsFault::BadValue.text(),
+            ProgramFault::UnknownKey => SettingsFault::UnknownKey.number_and_name(),
+            ProgramFault::BadValue => SettingsFault::BadValue.number_and_name(),
             ProgramFault::NotToml => "20 NotToml",
-            ProgramFault::Serving(fault) => fault.text(),
+            ProgramFault::Serving(fault) => fault.number_and_name(),
         }
     }
 }
@@ -38,7 +38,7 @@ impl fmt::Display for ProgramFault {
     ghost output = { λ fault. Some (fault_text fault) };
 
     fn fmt<W: fmt::Write>(&self, f: &mut fmt::Formatter<W>) -> fmt::Result {
-        f.write_str(self.text())
+        f.write_str(self.number_and_name())
     }
 }
 

@@ -65,7 +65,7 @@ impl TextBuilder {
     ///
     /// # Errors
     /// `AllocError` where a growth is refused.
-    pub fn add_line(&mut self, line: &[u8]) -> Result<(), AllocError>
+    pub fn add_line_or_mark_too_large(&mut self, line: &[u8]) -> Result<(), AllocError>
         requires { NoNewline line.now }
         ensures { OnOk result (self.new ≡ option_and_then (λ t. fitted (t ++ line.now ∷ [])) self.old) }
     {
@@ -83,14 +83,14 @@ impl TextBuilder {
     }
 
     /// Adds a line that alone is over the limits.
-    pub fn add_oversized_line(&mut self)
+    pub fn mark_text_too_large(&mut self)
         ensures { self.new ≡ None }
     {
         self.is_too_large = true;
     }
 
     /// The lines, in no more room than they take.
-    pub fn into_lines(self) -> Option<LineList>
+    pub fn into_lines_unless_too_large(self) -> Option<LineList>
         ensures { result ≡ self }
     {
         let TextBuilder {

@@ -15,15 +15,15 @@ pub fn put_verdict(out: &mut Vec<u8>, verdict: Verdict) -> Result<(), AllocError
     ensures { OnOk result (out.new.items ≡ out.old.items ++ verdict_text verdict) }
 {
     match verdict {
-        Verdict::Pass(events) => put_word_and_number(out, b"pass ", events),
+        Verdict::Pass(events) => put_prefix_and_number(out, b"pass ", events),
         Verdict::Fail(line, kind) => {
-            put_word_and_number(out, b"fail ", line)?;
+            put_prefix_and_number(out, b"fail ", line)?;
             out.extend_from_slice(b" ")?;
             out.extend_from_slice(kind.word().as_bytes())
         }
-        Verdict::Syntax(line) => put_word_and_number(out, b"syntax ", line),
-        Verdict::Unsupported(line) => put_word_and_number(out, b"unsupported ", line),
-        Verdict::Limit(line) => put_word_and_number(out, b"limit ", line),
+        Verdict::Syntax(line) => put_prefix_and_number(out, b"syntax ", line),
+        Verdict::Unsupported(line) => put_prefix_and_number(out, b"unsupported ", line),
+        Verdict::Limit(line) => put_prefix_and_number(out, b"limit ", line),
     }
 }
 
@@ -31,7 +31,7 @@ pub fn put_verdict(out: &mut Vec<u8>, verdict: Verdict) -> Result<(), AllocError
 ///
 /// # Errors
 /// `AllocError` where a growth is refused.
-pub fn put_word_and_number(out: &mut Vec<u8>, word: &[u8], n: usize) -> Result<(), AllocError>
+pub fn put_prefix_and_number(out: &mut Vec<u8>, word: &[u8], n: usize) -> Result<(), AllocError>
     ensures { OnOk result (out.new.items ≡ out.old.items ++ word.now ++ decimal n) }
 {
     let mut digits = Buffer::new();

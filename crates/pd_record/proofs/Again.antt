@@ -23,7 +23,7 @@ use Rattle.pd_print.specs.Sent.{packet_of}
 use Rattle.pd_run.specs.Laws.{IsUnderway, StartsUnderway, StepsGoOn}
 use Rattle.pd_run.specs.Run.{start_of}
 use Rattle.pd_run.specs.Step.{RunStateView, step, tolerance_of}
-use Rattle.pd_run.specs.Times.{time_of, time_range_of, may_be_in_time}
+use Rattle.pd_run.specs.Times.{single_moment_or_base, time_range_of, is_not_too_late_within_tolerance}
 use Rattle.pd_run.specs.Verdicts.{precheck_verdict}
 use Rattle.pd_run.specs.declared.prechecks.Precheck.{Precheck}
 use Rattle.pd_run.specs.StopReason.{ReasonsGiveVerdicts}
@@ -32,7 +32,7 @@ use Rattle.pd_record.specs.FollowsRun.{RecordingsFollowRuns}
 use Rattle.pd_record.specs.Recording.{RecordedScriptView, records, closed, recorded_script_of, recording_in, events_in, events_recorded, events_of_all, events_of}
 use Rattle.pd_record.specs.Answered.{IsRecording}
 use Rattle.pd_layout.specs.ReadAs.{without_line, AreSameEvents, kinds_of, IsReadAs}
-use Rattle.pd_record.specs.Recorder.{RecorderView, EventRecordingView, Answers, then_do, unless, blank_from, gone_to, stepped, recorded_as, event_at, refusal_at, happened, leaves_next, departs, with_unmet, comes, comes_on, left_by, with_base, action_time, inputs, arrives, answered, answer_at, with_answer, calls, based_after, meets, meets_oldest, precheck_at, performed, recorded}
+use Rattle.pd_record.specs.Recorder.{RecorderView, EventRecordingView, Answers, then_do, unless, blank_from, gone_to, stepped, recorded_as, event_at, refusal_if_over_event_or_gap_limit, happened, leaves_next, departs, with_unmet, comes, comes_on, left_by, with_base, action_time_not_before_clock, inputs, arrives, answered, answer_at, with_answer, calls, based_after, meets, meets_oldest, precheck_at, performed, recorded}
 use Rattle.pd_record.specs.declared.record_error.RecordError.TheVariants.{Stopped}
 use Rattle.pd_record.specs.declared.recorded.OwnEvent.{OwnEvent}
 use Rattle.pd_record.specs.declared.recorded.RecordedEvent.{RecordedEvent}
@@ -58,7 +58,7 @@ gone t s = record t { run = s; count = t.count + 1 }
 -- the state after it, and what it is
 abbrev pub IsTaken : RecorderView → ℕ → ℕ → Action → RecorderView × RecordedEvent → RunStateView → Type 0
 IsTaken t line at action y s =
-    (step t.run (event_at t line at action) ≡ Ok s) × (refusal_at t at ≡ None) × (y ≡ (gone t s, recorded_as at (event_at t line at action)))
+    (step t.run (event_at t line at action) ≡ Ok s) × (refusal_if_over_event_or_gap_limit t at ≡ None) × (y ≡ (gone t s, recorded_as at (event_at t line at action)))
 
 stepped_to : (t u : RecorderView) (came : Result RunStateView Verdict) → gone_to t came ≡ Ok u → (s : RunStateView) × (came ≡ Ok s) × (u ≡ gone t s)
 stepped_to t u (Ok s) h = (s, refl, sym (given (gone t s) u h))
@@ -67,13 +67,13 @@ stepped_to t u (Err v) h = absurd cc
 pub has_happened : (t : RecorderView) (line at : ℕ) (action : Action) (y : RecorderView × RecordedEvent) → happened t line at action ≡ Ok y → (s : RunStateView) × IsTaken t line at action y s
 has_happened t line at action y h =
     let e = event_at t line at action in
-    let free = no_refusal (then_do (λ (u : RecorderView). ok (u, recorded_as at e)) (stepped t e)) (refusal_at t at) y h in
+    let free = no_refusal (then_do (λ (u : RecorderView). ok (u, recorded_as at e)) (stepped t e)) (refusal_if_over_event_or_gap_limit t at) y h in
     let b = both (λ (u : RecorderView). ok (u, recorded_as at e)) (stepped t e) y free.1 in
     let went = stepped_to t b.0 (step t.run e) b.1 in
     let is : y ≡ (gone t went.0, recorded_as at e) = sym (given (b.0, recorded_as at e) y b.2) ∙ ap (λ (u : RecorderView). (u, recorded_as at e)) went.2 in
     (went.0, (went.1, free.0, is))
 
-pub happens_next : (t : RecorderView) (line at : ℕ) (action : Action) (s : RunStateView) → step t.run (event_at t line at action) ≡ Ok s → refusal_at t at ≡ None
+pub happens_next : (t : RecorderView) (line at : ℕ) (action : Action) (s : RunStateView) → step t.run (event_at t line at action) ≡ Ok s → refusal_if_over_event_or_gap_limit t at ≡ None
     → happened t line at action ≡ Ok (gone t s, recorded_as at (event_at t line at action))
 happens_next t line at action s h free =
     let e = event_at t line at action in
@@ -93,35 +93,35 @@ no_ruling n r s e h = ap (option_map (λ (bar : Precheck). Stopped (precheck_ver
 -- an input at a moment
 abbrev inputs_at : ℕ → (RecorderView → Answers (RecorderView × OwnEvent)) → RecorderView → Event → Answers (RecorderView × EventRecordingView)
 inputs_at at act t e =
-    then_do (λ (x : RecorderView × List RecordedEvent). then_do (λ (y : RecorderView × OwnEvent). ok (with_base (time_of t.base e.time) y.0, took x.1 (Some y.1))) (act x.0)) (left_by e.line at t)
+    then_do (λ (x : RecorderView × List RecordedEvent). then_do (λ (y : RecorderView × OwnEvent). ok (with_base (single_moment_or_base t.base e.time) y.0, took x.1 (Some y.1))) (act x.0)) (left_by e.line at t)
 
 nothing_left : (t : RecorderView) (line until : ℕ) → leaves_next (λ due. nat_le due until) t.run ≡ None → left_by line until t ≡ Ok (t, [])
 nothing_left t line until none = comes_over 4096 4095 line until [] t (omega arith) none
 
 input_again : (n at : ℕ) (r s : RunStateView) (e : Event) (act : RecorderView → Answers (RecorderView × OwnEvent)) (own : OwnEvent)
-    → s.base ≡ time_of r.base e.time → leaves_next (λ due. nat_le due at) r ≡ None
+    → s.base ≡ single_moment_or_base r.base e.time → leaves_next (λ due. nat_le due at) r ≡ None
     → act (calm n r) ≡ Ok (gone (calm n r) s, own) → inputs_at at act (calm n r) e ≡ Ok (calm (n + 1) s, took [] (Some own))
 input_again n at r s e act own base none acts =
     let c : RecorderView = calm n r in
-    let after : List RecordedEvent → RecorderView × OwnEvent → Answers (RecorderView × EventRecordingView) = λ list y. ok (with_base (time_of r.base e.time) y.0, took list (Some y.1)) in
+    let after : List RecordedEvent → RecorderView × OwnEvent → Answers (RecorderView × EventRecordingView) = λ list y. ok (with_base (single_moment_or_base r.base e.time) y.0, took list (Some y.1)) in
     ap (then_do (λ (x : RecorderView × List RecordedEvent). then_do (after x.1) (act x.0))) (nothing_left c e.line at none)
     ∙ (ap (then_do (after [])) acts
     ∙ ap (λ (b : ℕ). ok (with_base b (gone c s), took [] (Some own))) (sym base))
 
 -- the moment of an input that was recorded
-acts_then : (n at line : ℕ) (r : RunStateView) (action : Action) → r.base ≤ at → r.clock ≤ at → action_time (calm n r) (event_at (calm n r) line at action) ≡ at
+acts_then : (n at line : ℕ) (r : RunStateView) (action : Action) → r.base ≤ at → r.clock ≤ at → action_time_not_before_clock (calm n r) (event_at (calm n r) line at action) ≡ at
 acts_then n at line r action base clock = omega (arith, base, clock)
 
 pub arrival_again : (n at line : ℕ) (r s : RunStateView) (p : Packet) → r.base ≤ at → r.clock ≤ at
-    → step r (event_at (calm n r) line at (Inbound p)) ≡ Ok s → refusal_at (calm n r) at ≡ None → leaves_next (λ due. nat_le due at) r ≡ None
+    → step r (event_at (calm n r) line at (Inbound p)) ≡ Ok s → refusal_if_over_event_or_gap_limit (calm n r) at ≡ None → leaves_next (λ due. nat_le due at) r ≡ None
     → Repeats (event_at (calm n r) line at (Inbound p)) n r s
 arrival_again n at line r s p base clock h free none e same =
     let c : RecorderView = calm n r in
     let x : Event = event_at c e.line at (Inbound p) in
     let goes : step r x ≡ Ok s = step_unplaced r s (event_at c line at (Inbound p)) x refl h in
     let own : OwnEvent = own_of (recorded_as at x) in
-    let ruled : recorded c x ≡ inputs (arrives e.line (action_time c x) p) c x = ap (unless (performed c x (Inbound p))) (no_ruling n r s x goes) in
-    let moment : inputs (arrives e.line (action_time c x) p) c x ≡ inputs_at at (arrives e.line at p) c x =
+    let ruled : recorded c x ≡ inputs (arrives e.line (action_time_not_before_clock c x) p) c x = ap (unless (performed c x (Inbound p))) (no_ruling n r s x goes) in
+    let moment : inputs (arrives e.line (action_time_not_before_clock c x) p) c x ≡ inputs_at at (arrives e.line at p) c x =
     ap (λ (m : ℕ). inputs_at m (arrives e.line m p) c x) (acts_then n at e.line r (Inbound p) base clock) in
     let arrived : arrives e.line at p c ≡ Ok (gone c s, own) = ap (then_do (λ (y : RecorderView × RecordedEvent). ok (y.0, own_of y.1))) (happens_next c e.line at (Inbound p) s goes free) in
     let again : recorded c x ≡ Ok (calm (n + 1) s, took [] (Some own)) =
@@ -137,13 +137,13 @@ answer_anew : (t : RecorderView) (n line other at : ℕ) (call : Call) (answer :
     → answer_at (calm n t.run) other at (with_answer call answer) ≡ Ok answer
 answer_anew t n line other at call answer same h =
     let came : Result (SenderState × Answer) Halt = then_on (called call at) (advanced at t.run.host.state) in
-    let free = no_refusal (answered line came) (refusal_at t at) answer h in
-    let its : refusal_at (calm n t.run) at ≡ None = ap (λ (k : ℕ). refusal_at (calm k t.run) at) same ∙ free.0 in
+    let free = no_refusal (answered line came) (refusal_if_over_event_or_gap_limit t at) answer h in
+    let its : refusal_if_over_event_or_gap_limit (calm n t.run) at ≡ None = ap (λ (k : ℕ). refusal_if_over_event_or_gap_limit (calm k t.run) at) same ∙ free.0 in
     ap (unless (answered other came)) its ∙ answered_anew line other came answer free.1
 
 pub call_again : (n at line : ℕ) (r s : RunStateView) (call : Call) (answer : Answer) → r.base ≤ at → r.clock ≤ at
     → ((other : ℕ) → answer_at (calm n r) other at (with_answer call answer) ≡ Ok answer)
-    → step r (event_at (calm n r) line at (Calls (with_answer call answer))) ≡ Ok s → refusal_at (calm n r) at ≡ None → leaves_next (λ due. nat_le due at) r ≡ None
+    → step r (event_at (calm n r) line at (Calls (with_answer call answer))) ≡ Ok s → refusal_if_over_event_or_gap_limit (calm n r) at ≡ None → leaves_next (λ due. nat_le due at) r ≡ None
     → Repeats (event_at (calm n r) line at (Calls (with_answer call answer))) n r s
 call_again n at line r s call answer base clock answers h free none e same =
     let c : RecorderView = calm n r in
@@ -151,8 +151,8 @@ call_again n at line r s call answer base clock answers h free none e same =
     let x : Event = event_at c e.line at (Calls made) in
     let goes : step r x ≡ Ok s = step_unplaced r s (event_at c line at (Calls made)) x refl h in
     let own : OwnEvent = answer_own made answer (recorded_as at x) in
-    let ruled : recorded c x ≡ inputs (calls e.line (action_time c x) made) c x = ap (unless (performed c x (Calls made))) (no_ruling n r s x goes) in
-    let moment : inputs (calls e.line (action_time c x) made) c x ≡ inputs_at at (calls e.line at made) c x =
+    let ruled : recorded c x ≡ inputs (calls e.line (action_time_not_before_clock c x) made) c x = ap (unless (performed c x (Calls made))) (no_ruling n r s x goes) in
+    let moment : inputs (calls e.line (action_time_not_before_clock c x) made) c x ≡ inputs_at at (calls e.line at made) c x =
     ap (λ (m : ℕ). inputs_at m (calls e.line m made) c x) (acts_then n at e.line r (Calls made) base clock) in
     let recorded_call : Answer → Answers (RecorderView × OwnEvent) = λ a. then_do (λ (y : RecorderView × RecordedEvent). ok (y.0, answer_own made a y.1)) (happened c e.line at (Calls (with_answer made a))) in
     let called_so : calls e.line at made c ≡ Ok (gone c s, own) =
@@ -166,7 +166,7 @@ call_again n at line r s call answer base clock answers h free none e same =
 
 pub packet_again : AdvancesPutOutAfter → (n line : ℕ) (r s : RunStateView) (may : ℕ → Bool) (sent : Sent) → leaves_next may r ≡ Some sent
     → s.base ≡ r.base + (sent.at - r.base)
-    → step r (event_at (calm n r) line sent.at (Outbound (packet_of sent.segment))) ≡ Ok s → refusal_at (calm n r) sent.at ≡ None
+    → step r (event_at (calm n r) line sent.at (Outbound (packet_of sent.segment))) ≡ Ok s → refusal_if_over_event_or_gap_limit (calm n r) sent.at ≡ None
     → Repeats (event_at (calm n r) line sent.at (Outbound (packet_of sent.segment))) n r s
 packet_again puts_after n line r s may sent next base h free e same =
     let c : RecorderView = calm n r in
@@ -174,7 +174,7 @@ packet_again puts_after n line r s may sent next base h free e same =
     let x : Event = event_at c e.line sent.at action in
     let goes : step r x ≡ Ok s = step_unplaced r s (event_at c line sent.at action) x refl h in
     let own : OwnEvent = own_of (recorded_as sent.at x) in
-    let ruled : recorded c x ≡ meets c x (leaves_next (may_be_in_time (time_range_of r.base x.time) (tolerance_of r)) r) = ap (unless (performed c x action)) (no_ruling n r s x goes) in
+    let ruled : recorded c x ≡ meets c x (leaves_next (is_not_too_late_within_tolerance (time_range_of r.base x.time) (tolerance_of r)) r) = ap (unless (performed c x action)) (no_ruling n r s x goes) in
     let after : RecorderView × RecordedEvent → Answers (RecorderView × EventRecordingView) = λ y. ok (based_after x.time (Some sent.at) y.0, took [] (Some (own_of y.1))) in
     let left : departs c e.line sent ≡ Ok (gone c s, recorded_as sent.at x) = happens_next c e.line sent.at action s goes free in
     let again : recorded c x ≡ Ok (calm (n + 1) s, took [] (Some own)) =
@@ -297,7 +297,7 @@ module _ (laws : Bases) where
       (t : RecorderView) (y : RecorderView × OwnEvent) → IsReady t.count t.run → t.run.clock ≤ at → leaves_next (λ due. nat_le due at) t.run ≡ None → act t ≡ Ok y → Went owned t y
 
   -- the run after an input is ready
-  ready_after : (n : ℕ) (r s : RunStateView) (e : Event) → IsReady n r → step r e ≡ Ok s → s.base ≡ time_of r.base e.time → s.clock ≡ max (time_of r.base e.time) r.clock
+  ready_after : (n : ℕ) (r s : RunStateView) (e : Event) → IsReady n r → step r e ≡ Ok s → s.base ≡ single_moment_or_base r.base e.time → s.clock ≡ max (single_moment_or_base r.base e.time) r.clock
       → IsReady (n + 1) s × (r.clock ≤ s.clock)
   ready_after n r s e ready h base clock = (record { underway = laws.steps n r s e ready.underway h; timely = omega (arith, base, clock) }, omega (arith, clock))
 
@@ -331,12 +331,12 @@ module _ (laws : Bases) where
       let is : z ≡ y = ap (seen a.0) (sym was.1.2) ∙ given (seen a.0 b.0) y b.2 in
       subst (Went owned t) is (one_again x t.count t.run was.0 repeats after.0 after.1)
 
-  input_went : (act : RecorderView → Answers (RecorderView × OwnEvent)) (t : RecorderView) (e : Event) (y : RecorderView × EventRecordingView) → Acts (action_time t e) act → IsReady t.count t.run → inputs act t e ≡ Ok y → Went events_recorded t y
+  input_went : (act : RecorderView → Answers (RecorderView × OwnEvent)) (t : RecorderView) (e : Event) (y : RecorderView × EventRecordingView) → Acts (action_time_not_before_clock t e) act → IsReady t.count t.run → inputs act t e ≡ Ok y → Went events_recorded t y
   input_went act t e y goes ready h =
-      let after : RecorderView × List RecordedEvent → RecorderView × OwnEvent → RecorderView × EventRecordingView = λ x z. (with_base (time_of t.base e.time) z.0, took x.1 (Some z.1)) in
-      let a = both (λ (x : RecorderView × List RecordedEvent). then_do (λ (z : RecorderView × OwnEvent). ok (after x z)) (act x.0)) (left_by e.line (action_time t e) t) y h in
+      let after : RecorderView × List RecordedEvent → RecorderView × OwnEvent → RecorderView × EventRecordingView = λ x z. (with_base (single_moment_or_base t.base e.time) z.0, took x.1 (Some z.1)) in
+      let a = both (λ (x : RecorderView × List RecordedEvent). then_do (λ (z : RecorderView × OwnEvent). ok (after x z)) (act x.0)) (left_by e.line (action_time_not_before_clock t e) t) y h in
       let b = both (λ (z : RecorderView × OwnEvent). ok (after a.0 z)) (act a.0.0) y a.2 in
-      let left = left_went e.line (action_time t e) t a.0 ready (omega arith) a.1 in
+      let left = left_went e.line (action_time_not_before_clock t e) t a.0 ready (omega arith) a.1 in
       let own = goes a.0.0 b.0 left.0.ready left.1 left.2 b.1 in
       subst (Went events_recorded t) (given (after a.0 b.0) y b.2)
       (both_again (events_in a.0.1) (owned b.0.1) t.count t.run a.0.0.count a.0.0.run b.0.0.count b.0.0.run left.0 own)
@@ -352,16 +352,16 @@ module _ (laws : Bases) where
 
   expected_went : (t : RecorderView) (e : Event) (y : RecorderView × EventRecordingView) (unmet : List ℕ) → IsReady t.count t.run → meets_oldest t e unmet ≡ Ok y → Went events_recorded t y
   expected_went t e y [] ready h =
-      meeting_went t e y (may_be_in_time (time_range_of t.base e.time) (tolerance_of t.run)) (leaves_next (may_be_in_time (time_range_of t.base e.time) (tolerance_of t.run)) t.run) refl ready h
+      meeting_went t e y (is_not_too_late_within_tolerance (time_range_of t.base e.time) (tolerance_of t.run)) (leaves_next (is_not_too_late_within_tolerance (time_range_of t.base e.time) (tolerance_of t.run)) t.run) refl ready h
   expected_went t e y (at ∷ others) ready h =
       subst (Went events_recorded t) (given (based_after e.time (Some at) (record t { unmet = others }), took [] None) y h) (none_again t.count t.run ready)
 
   -- ---- events of the script
 
   performed_went : (t : RecorderView) (e : Event) (y : RecorderView × EventRecordingView) (action : Action) → IsReady t.count t.run → performed t e action ≡ Ok y → Went events_recorded t y
-  performed_went t e y (Inbound p) ready h = input_went (arrives e.line (action_time t e) p) t e y (arrival_went e.line (action_time t e) p) ready h
+  performed_went t e y (Inbound p) ready h = input_went (arrives e.line (action_time_not_before_clock t e) p) t e y (arrival_went e.line (action_time_not_before_clock t e) p) ready h
   performed_went t e y (Outbound p) ready h = expected_went t e y t.unmet ready h
-  performed_went t e y (Calls call) ready h = input_went (calls e.line (action_time t e) call) t e y (call_went e.line (action_time t e) call) ready h
+  performed_went t e y (Calls call) ready h = input_went (calls e.line (action_time_not_before_clock t e) call) t e y (call_went e.line (action_time_not_before_clock t e) call) ready h
   performed_went t e y Command ready h = absurd cc
   performed_went t e y Code ready h = absurd cc
 

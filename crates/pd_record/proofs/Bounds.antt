@@ -10,13 +10,13 @@ use Rattle.pd_host.specs.Expiries.{deadline_of}
 use Rattle.pd_run.specs.Laws.{IsUnderway}
 use Rattle.pd_run.specs.Limits.{is_long, written_times}
 use Rattle.pd_run.specs.Step.{RunStateView}
-use Rattle.pd_run.specs.Times.{time_of, base_after}
-use Rattle.pd_record.specs.Recorder.{RecorderView, refusal_at, with_unmet}
+use Rattle.pd_run.specs.Times.{single_moment_or_base, base_after_expected_packet}
+use Rattle.pd_record.specs.Recorder.{RecorderView, refusal_if_over_event_or_gap_limit, with_unmet}
 use Rattle.pd_record.specs.Inner.{Sound, IsReached}
 use Rattle.pd_record.specs.declared.record_error.RecordError.TheVariants.{TooManyEvents, TooLongGap}
 
 -- an event that isn't refused is no 4,097th one, and comes at most 3,600 seconds after the one before
-pub not_refused : (t : RecorderView) (at : ℕ) → refusal_at t at ≡ None → (t.count < 4096) × (at ≤ t.run.base + 3600000000)
+pub not_refused : (t : RecorderView) (at : ℕ) → refusal_if_over_event_or_gap_limit t at ≡ None → (t.count < 4096) × (at ≤ t.run.base + 3600000000)
 not_refused t at = go (nat_le 4096 t.count) (nat_lt 3600000000 (at - t.run.base)) refl refl
   where
     go : (a b : Bool) → nat_le 4096 t.count ≡ a → nat_lt 3600000000 (at - t.run.base) ≡ b
@@ -30,7 +30,7 @@ not_refused t at = go (nat_le 4096 t.count) (nat_lt 3600000000 (at - t.run.base)
         (few, omega arith)
 
 -- so its moment is within reach
-pub is_reached : (t : RecorderView) (at : ℕ) → Sound t → refusal_at t at ≡ None → IsReached at
+pub is_reached : (t : RecorderView) (at : ℕ) → Sound t → refusal_if_over_event_or_gap_limit t at ≡ None → IsReached at
 is_reached t at sound h =
     let within = not_refused t at h in
     omega (arith, within.0, within.1, sound.run.base)
@@ -50,7 +50,7 @@ deadline_near n at r underway is =
         omega (arith, h.1, most, same)
 
 -- a single time within its limit lies at most 3,600 seconds after the base, or after the start
-pub moment_within : (base : ℕ) (time : Time) → list_any is_long (written_times time) ≡ false → time_of base time ≤ base + 3600000000
+pub moment_within : (base : ℕ) (time : Time) → list_any is_long (written_times time) ≡ false → single_moment_or_base base time ≤ base + 3600000000
 moment_within base Any h = omega arith
 moment_within base (Absolute t) h = grind (arith, nat_tests)
 moment_within base (Relative t) h = grind (arith, nat_tests)
@@ -59,7 +59,7 @@ moment_within base (RelativeRange first last) h = omega arith
 
 -- so the base stays within reach
 pub base_within : (base at : ℕ) (time : Time) → list_any is_long (written_times time) ≡ false
-    → base_after base time at ≤ max (base + 3600000000) at
+    → base_after_expected_packet base time at ≤ max (base + 3600000000) at
 base_within base at Any h = omega arith
 base_within base at (Absolute t) h = let m = moment_within base (Absolute t) h in omega (arith, m)
 base_within base at (Relative t) h = let m = moment_within base (Relative t) h in omega (arith, m)

@@ -27,7 +27,7 @@ use Rattle.pd_run.specs.InboundSegment.{segment_in}
 use Rattle.pd_run.specs.Run.{start_of, on_script, verdict_from}
 use Rattle.pd_run.specs.Step as run
 use Rattle.pd_run.specs.Step.{RunStateView, tolerance_of, comparison_noted, on_step, acted, on_arrival, on_answer, answers, step}
-use Rattle.pd_run.specs.Times.{time_of, time_range_of, may_be_in_time, base_after}
+use Rattle.pd_run.specs.Times.{single_moment_or_base, time_range_of, is_not_too_late_within_tolerance, base_after_expected_packet}
 use Rattle.pd_run.specs.StopReason.{verdict_at, verdict_by_step, stop_reason}
 use Rattle.pd_run.specs.declared.verdict.Verdict.{Verdict}
 use Rattle.pd_run.specs.declared.verdict.Verdict.TheVariants.{Pass, Syntax}
@@ -36,7 +36,7 @@ use Rattle.pd_run.specs.declared.prechecks.Precheck.TheVariants.{OverLimit, NotR
 use Rattle.pd_run.specs.declared.stop_reason.StopReason.TheVariants.{FailedPrecheck, Halted, Missing, Differs, Answered}
 use Rattle.pd_record.specs.FollowsRun.{Input, input_at, inputs_from, inputs_of, matched_at, matched_from, matched_of_run, own_event_in, all_own_events, inputs_in, departure_at, departures_in, departed, FollowsRun, RecordingsFollowRuns}
 use Rattle.pd_record.specs.Recording.{RecordedScriptView, records, closed, recorded_script_of, recording_in, events_in, event_in, events_of_all}
-use Rattle.pd_record.specs.Recorder.{RecorderView, EventRecordingView, Answers, then_do, blank_from, recorded_as, event_at, happened, leaves_next, departs, left_by, with_base, action_time, inputs, arrives, answer_at, with_answer, calls, based_after, meets, meets_oldest, precheck_at, performed, recorded}
+use Rattle.pd_record.specs.Recorder.{RecorderView, EventRecordingView, Answers, then_do, blank_from, recorded_as, event_at, happened, leaves_next, departs, left_by, with_base, action_time_not_before_clock, inputs, arrives, answer_at, with_answer, calls, based_after, meets, meets_oldest, precheck_at, performed, recorded}
 use Rattle.pd_record.specs.declared.record_error.RecordError.TheVariants.{Stopped}
 use Rattle.pd_record.specs.declared.recorded.OwnEvent.{OwnEvent}
 use Rattle.pd_record.specs.declared.recorded.RecordedEvent.{RecordedEvent}
@@ -83,7 +83,7 @@ record Follows (r : RunStateView) (t : RecorderView) (w : List Sent) : Type 0 wh
 record Goes (r s : RunStateView) (w : List Sent) (e : Event) (a : Action) (y : RecorderView × EventRecordingView) : Type 0 where
   later : List Sent
   follows : Follows s y.0 later
-  inputs : inputs_in (of_took y.1) ≡ input_at (run.action_time r e) a
+  inputs : inputs_in (of_took y.1) ≡ input_at (run.action_time_not_before_clock r e) a
   packets : map departed w ++ departures_in (of_took y.1) ≡ map departed (matched_at r e a) ++ map departed later
 
 -- ---- expected packets
@@ -109,7 +109,7 @@ oldest_met r s t x ws e p y f h k = go m.1.waits
         subst (Goes r s (x ∷ ws) e (Outbound p)) its (record {
           later = ws;
           follows = record {
-            base = ap (λ (b : ℕ). base_after b e.time x.at) f.base ∙ (ap (λ (z : Sent). base_after r.base e.time z.at) (sym same) ∙ sym m.1.base);
+            base = ap (λ (b : ℕ). base_after_expected_packet b e.time x.at) f.base ∙ (ap (λ (z : Sent). base_after_expected_packet r.base e.time z.at) (sym same) ∙ sym m.1.base);
             clock = f.clock ∙ sym a.1;
             unmet = refl;
             state = m.1.state ∙ ap without_first (a.0 ∙ f.state);
@@ -125,11 +125,11 @@ oldest_met r s t x ws e p y f h k = go m.1.waits
 
 -- the packet that a run takes leaves next on a tape that waits for none
 leaves_so : (r s : RunStateView) (t : RecorderView) (e : Event) (sent : Sent) → Follows r t [] → Met r s e sent
-    → leaves_next (may_be_in_time (time_range_of t.base e.time) (tolerance_of t.run)) t.run ≡ Some sent
+    → leaves_next (is_not_too_late_within_tolerance (time_range_of t.base e.time) (tolerance_of t.run)) t.run ≡ Some sent
 leaves_so r s t e sent f m = go m.waits
   where
     may : ℕ → Bool
-    may = may_be_in_time (time_range_of t.base e.time) (tolerance_of t.run)
+    may = is_not_too_late_within_tolerance (time_range_of t.base e.time) (tolerance_of t.run)
 
     tolerance : tolerance_of r ≡ tolerance_of t.run
     tolerance = ap (λ (o : Option ℕ). unwrap_or o r.host.state.settings.tolerance_us) (sym f.header_tolerance) ∙ ap (λ (z : SenderState). unwrap_or t.run.header_tolerance z.settings.tolerance_us) f.state
@@ -140,7 +140,7 @@ leaves_so r s t e sent f m = go m.waits
         let empty : slice_get t.run.host.state.endpoint.outbox 0 ≡ None =
         ap (λ (z : SenderState). slice_get z.endpoint.outbox 0) (sym f.state) ∙ ap (λ (l : List Sent). slice_get l 0) (no_items r.host.state.endpoint.outbox b.0) in
         let reach : may b.1 ≡ true =
-        ap (λ (base : ℕ). may_be_in_time (time_range_of base e.time) (tolerance_of t.run) b.1) f.base ∙ (ap (λ (n : ℕ). may_be_in_time (time_range_of r.base e.time) n b.1) (sym tolerance) ∙ b.4) in
+        ap (λ (base : ℕ). is_not_too_late_within_tolerance (time_range_of base e.time) (tolerance_of t.run) b.1) f.base ∙ (ap (λ (n : ℕ). is_not_too_late_within_tolerance (time_range_of r.base e.time) n b.1) (sym tolerance) ∙ b.4) in
         expires_next may may t.run sent
         (empty, b.1, m.before, ap (λ (z : SenderState). deadline_of z) (sym f.state) ∙ b.2, reach, ap (advanced b.1) (sym f.state) ∙ b.3, m.first) reach
 
@@ -151,7 +151,7 @@ module _ (laws : Bases) where
   newly_met r s t e p y f h k =
       let m = met r s e p h in
       let sent : Sent = m.0 in
-      let may : ℕ → Bool = may_be_in_time (time_range_of t.base e.time) (tolerance_of t.run) in
+      let may : ℕ → Bool = is_not_too_late_within_tolerance (time_range_of t.base e.time) (tolerance_of t.run) in
       let next : leaves_next may t.run ≡ Some sent = leaves_so r s t e sent f m.1 in
       let after : RecorderView × RecordedEvent → RecorderView × EventRecordingView = λ z. (based_after e.time (Some sent.at) z.0, took [] (Some (own_of z.1))) in
       let k1 : meets t e (leaves_next may t.run) ≡ Ok y = ap (meets_oldest t e) (sym f.unmet) ∙ k in
@@ -169,7 +169,7 @@ module _ (laws : Bases) where
       subst (Goes r s [] e (Outbound p)) its (record {
         later = [];
         follows = record {
-          base = ap (λ (z : ℕ). base_after z e.time sent.at) f.base ∙ sym m.1.base;
+          base = ap (λ (z : ℕ). base_after_expected_packet z e.time sent.at) f.base ∙ sym m.1.base;
           clock = alike.1;
           unmet = f.unmet;
           state = m.1.state ∙ (ap without_first (sym alike.0) ∙ sym n.1.state);
@@ -228,7 +228,7 @@ calls_free call = record {
 
 -- it acted in a run: after all expiries up to its moment
 abbrev ActedIn : Acting → RunStateView → Event → RunStateView → Type 0
-ActedIn acts r e s = (a b : SenderState) × (advanced (run.action_time r e) r.host.state ≡ Ok a) × acts (run.action_time r e) a b × (acted r e b ≡ s)
+ActedIn acts r e s = (a b : SenderState) × (advanced (run.action_time_not_before_clock r e) r.host.state ≡ Ok a) × acts (run.action_time_not_before_clock r e) a b × (acted r e b ≡ s)
 
 abbrev run_came : RunStateView → Result RunStateView StopReason
 run_came r = Ok r
@@ -240,7 +240,7 @@ arrival_came r s e (Err stop) h = absurd cc
 arrival_in : (r s : RunStateView) (e : Event) (p : Packet) → run.performed r e (Inbound p) ≡ Ok s → ActedIn (ArrivesAt p) r e s
 arrival_in r s e p h =
     let came = arrival_came r s e (run.arrives r e p) h in
-    let parts = then_both (arrived (segment_in p) (run.action_time r e)) (advanced (run.action_time r e) r.host.state) came.0 came.1 in
+    let parts = then_both (arrived (segment_in p) (run.action_time_not_before_clock r e)) (advanced (run.action_time_not_before_clock r e) r.host.state) came.0 came.1 in
     (parts.0, came.0, parts.1, parts.2, came.2)
 
 answer_came : (r s : RunStateView) (e : Event) (call : Call) (came : Result (SenderState × Answer) Halt) → on_answer r e call came ≡ Ok s
@@ -251,11 +251,11 @@ answer_came r s e call (Err stop) h = absurd cc
 call_in : (r s : RunStateView) (e : Event) (call : Call) → run.performed r e (Calls call) ≡ Ok s → ActedIn (CalledAt call) r e s
 call_in r s e call h =
     let came = answer_came r s e call (answers r e call) h in
-    let parts = then_both (called call (run.action_time r e)) (advanced (run.action_time r e) r.host.state) came.0 came.1 in
+    let parts = then_both (called call (run.action_time_not_before_clock r e)) (advanced (run.action_time_not_before_clock r e) r.host.state) came.0 came.1 in
     (parts.0, came.0.0, parts.1, (came.0.1, parts.2), came.2)
 
 -- where no expiry is due any more it acts on the state itself
-acts_now : (acts : Acting) (q u : RunStateView) (x : Event) (at : ℕ) → run.action_time q x ≡ at → find_due at q.host.state ≡ None → ActedIn acts q x u
+acts_now : (acts : Acting) (q u : RunStateView) (x : Event) (at : ℕ) → run.action_time_not_before_clock q x ≡ at → find_due at q.host.state ≡ None → ActedIn acts q x u
     → acts at q.host.state u.host.state × (u.clock ≡ at) × (u.header_tolerance ≡ q.header_tolerance)
 acts_now acts q u x at moment none h =
     let still : q.host.state ≡ h.0 = same_came (advanced at q.host.state) q.host.state h.0 (none_due at q.host.state none) (ap (λ (m : ℕ). advanced m q.host.state) (sym moment) ∙ h.2) in
@@ -276,7 +276,7 @@ record OwnActs (acts : Acting) (at : ℕ) (a : Action) (q : RecorderView) (z : R
   packet : departures_in (z.1.recorded ∷ []) ≡ []
 
 -- the moment of an input that was recorded
-acts_then : (q : RecorderView) (line at : ℕ) (action : Action) → q.run.base ≤ at → q.run.clock ≤ at → run.action_time q.run (event_at q line at action) ≡ at
+acts_then : (q : RecorderView) (line at : ℕ) (action : Action) → q.run.base ≤ at → q.run.clock ≤ at → run.action_time_not_before_clock q.run (event_at q line at action) ≡ at
 acts_then q line at action base clock = omega (arith, base, clock)
 
 arrival_own : (line at : ℕ) (p : Packet) (q : RecorderView) (z : RecorderView × OwnEvent) → IsReady q.count q.run → q.run.clock ≤ at → find_due at q.run.host.state ≡ None
@@ -333,21 +333,21 @@ starts_so header es settings recorded_script h = go (start_of header settings) r
 
 module _ (laws : Bases) where
   input_goes : (acts : Acting) → IsFree acts → (act : RecorderView → Answers (RecorderView × OwnEvent)) (r s : RunStateView) (t : RecorderView) (w : List Sent) (e : Event) (a : Action) (y : RecorderView × EventRecordingView)
-      → ((q : RecorderView) (z : RecorderView × OwnEvent) → IsReady q.count q.run → q.run.clock ≤ action_time t e → find_due (action_time t e) q.run.host.state ≡ None → act q ≡ Ok z → OwnActs acts (action_time t e) a q z)
+      → ((q : RecorderView) (z : RecorderView × OwnEvent) → IsReady q.count q.run → q.run.clock ≤ action_time_not_before_clock t e → find_due (action_time_not_before_clock t e) q.run.host.state ≡ None → act q ≡ Ok z → OwnActs acts (action_time_not_before_clock t e) a q z)
       → matched_at r e a ≡ [] → Follows r t w → IsReady y.0.count y.0.run → ActedIn acts r e s → inputs act t e ≡ Ok y → Goes r s w e a y
   input_goes acts free act r s t w e a y own none_taken f ready h k =
-      let at : ℕ = action_time t e in
-      let same_at : at ≡ run.action_time r e =
-      ap (λ (b : ℕ). max (time_of b e.time) t.run.clock) f.base ∙ ap (λ (c : ℕ). max (time_of r.base e.time) c) f.clock in
+      let at : ℕ = action_time_not_before_clock t e in
+      let same_at : at ≡ run.action_time_not_before_clock r e =
+      ap (λ (b : ℕ). max (single_moment_or_base b e.time) t.run.clock) f.base ∙ ap (λ (c : ℕ). max (single_moment_or_base r.base e.time) c) f.clock in
       let state : SenderState = t.run.host.state in
-      let after : RecorderView × List RecordedEvent → RecorderView × OwnEvent → RecorderView × EventRecordingView = λ x z. (with_base (time_of t.base e.time) z.0, took x.1 (Some z.1)) in
+      let after : RecorderView × List RecordedEvent → RecorderView × OwnEvent → RecorderView × EventRecordingView = λ x z. (with_base (single_moment_or_base t.base e.time) z.0, took x.1 (Some z.1)) in
       let x = both (λ (x : RecorderView × List RecordedEvent). then_do (λ (z : RecorderView × OwnEvent). ok (after x z)) (act x.0)) (left_by e.line at t) y k in
       let z = both (λ (z : RecorderView × OwnEvent). ok (after x.0 z)) (act x.0.0) y x.2 in
       -- the expiries up to the moment
       let in_run : advanced at (in_front w state) ≡ Ok h.0 =
-      ap (λ (m : ℕ). advanced m (in_front w state)) same_at ∙ (ap (advanced (run.action_time r e)) (sym f.state) ∙ h.2) in
+      ap (λ (m : ℕ). advanced m (in_front w state)) same_at ∙ (ap (advanced (run.action_time_not_before_clock r e)) (sym f.state) ∙ h.2) in
       let alone = came_by (in_front w) (advanced at (in_front w state)) (advanced at state) h.0 (advanced_freed w at state) in_run in
-      let early : t.run.clock ≤ action_time t e = omega arith in
+      let early : t.run.clock ≤ action_time_not_before_clock t e = omega arith in
       let all = all_left laws 4096 e.line at [] t x.0 alone.0 f.ready early alone.1 x.1 in
       let left : List Sent = all.1 in
       let over : LeftOver at t all.0 left x.0.0 alone.0 = all.3 in
@@ -365,7 +365,7 @@ module _ (laws : Bases) where
       subst (Goes r s w e a) is (record {
         later = w ++ left;
         follows = record {
-          base = ap (λ (b : ℕ). time_of b e.time) f.base ∙ ap (λ (v : RunStateView). v.base) h.4;
+          base = ap (λ (b : ℕ). single_moment_or_base b e.time) f.base ∙ ap (λ (v : RunStateView). v.base) h.4;
           clock = ap (λ (v : RunStateView). v.clock) run_of ∙ (o.clock ∙ (same_at ∙ ap (λ (v : RunStateView). v.clock) h.4));
           unmet = ap (λ (v : RecorderView). v.unmet) o.tape ∙ (over.unmet ∙ (ap (λ (l : List ℕ). l ++ map moment left) f.unmet ∙ sym (map-append moment w left)));
           state = sym (ap (λ (v : RunStateView). v.host.state) h.4) ∙ (freed.2 ∙ (ap (in_front (w ++ left)) its ∙ ap (λ (v : RunStateView). in_front (w ++ left) v.host.state) (sym run_of)));
@@ -391,10 +391,10 @@ module _ (laws : Bases) where
   performed_goes : (r s : RunStateView) (t : RecorderView) (w : List Sent) (e : Event) (a : Action) (y : RecorderView × EventRecordingView) → Follows r t w → IsReady y.0.count y.0.run
       → run.performed r e a ≡ Ok s → performed t e a ≡ Ok y → Goes r s w e a y
   performed_goes r s t w e (Inbound p) y f ready h k =
-      input_goes (ArrivesAt p) (arrivals_free p) (arrives e.line (action_time t e) p) r s t w e (Inbound p) y (λ q z. arrival_own e.line (action_time t e) p q z) refl f ready (arrival_in r s e p h) k
+      input_goes (ArrivesAt p) (arrivals_free p) (arrives e.line (action_time_not_before_clock t e) p) r s t w e (Inbound p) y (λ q z. arrival_own e.line (action_time_not_before_clock t e) p q z) refl f ready (arrival_in r s e p h) k
   performed_goes r s t w e (Outbound p) y f ready h k = expected_goes laws r s t w e p y f h k
   performed_goes r s t w e (Calls call) y f ready h k =
-      input_goes (CalledAt call) (calls_free call) (calls e.line (action_time t e) call) r s t w e (Calls call) y (λ q z. call_own e.line (action_time t e) call q z) refl f ready (call_in r s e call h) k
+      input_goes (CalledAt call) (calls_free call) (calls e.line (action_time_not_before_clock t e) call) r s t w e (Calls call) y (λ q z. call_own e.line (action_time_not_before_clock t e) call q z) refl f ready (call_in r s e call h) k
   performed_goes r s t w e Command y f ready h k = absurd cc
   performed_goes r s t w e Code y f ready h k = absurd cc
 
@@ -449,7 +449,7 @@ module _ (laws : Bases) where
         b.0.1 ∷ rest.0,
         rest.1 ∙ append_assoc per_event (b.0.1 ∷ []) rest.0,
         (
-          inputs_append first list ∙ (ap (λ (l : List (ℕ × Input)). l ++ inputs_in list) g.inputs ∙ (ap (λ (l : List (ℕ × Input)). input_at (run.action_time r e) e.action ++ l) (rest.2.0 ∙ sym goes_on))),
+          inputs_append first list ∙ (ap (λ (l : List (ℕ × Input)). l ++ inputs_in list) g.inputs ∙ (ap (λ (l : List (ℕ × Input)). input_at (run.action_time_not_before_clock r e) e.action ++ l) (rest.2.0 ∙ sym goes_on))),
           rest.2.1,
           ap (λ (l : List (ℕ × Packet)). map departed w ++ l) (departures_append first list)
               ∙ (sym (append_assoc (map departed w) (departures_in first) (departures_in list))

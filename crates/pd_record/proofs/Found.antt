@@ -9,7 +9,7 @@ use Rattle.pd_script.specs.Items.{is_end, starts_event, starts_event_or_end, nex
 use Rattle.pd_script.specs.EventReading.{next_line, event_at}
 use Rattle.pd_script.specs.Script.{followed, at_end, in_front}
 use Rattle.pd_script.specs.declared.parsed.EventsAndFault.{EventsAndFault}
-use Rattle.pd_script.specs.Next.{next_place, lookahead_line_of, next_in}
+use Rattle.pd_script.specs.Next.{place_of_next_token_or_end, lookahead_line_of, next_in}
 use Rattle.pd_script.proofs.Finding.{in_front-append, in_front-none}
 
 -- an event that no token follows is before the end
@@ -27,7 +27,7 @@ got_ends ts e after lookahead_line rest h g none = by_test (next_is starts_event
 
     by_test : (b : Bool) → next_is starts_event ts ≡ b → next_is is_end rest ≡ true
     by_test true start =
-        let made : Got e after lookahead_line ≡ Got e (next_place rest) (lookahead_line_of rest) = rw (start, g) at h in
+        let made : Got e after lookahead_line ≡ Got e (place_of_next_token_or_end rest) (lookahead_line_of rest) = rw (start, g) at h in
         no_reach (next_is is_end rest) refl cc
     by_test false start = absurd (by_end (next_is is_end ts) (rw start at h))
 

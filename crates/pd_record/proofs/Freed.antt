@@ -10,7 +10,7 @@ use Rattle.pd_recover.specs.declared.next_segment.NextSegment.{NextSegment}
 use Rattle.pd_seg.specs.declared.sack_spans.Span.{Span}
 use Rattle.pd_seg.specs.declared.segments.Segment.{Segment}
 use Rattle.pd_seg.specs.declared.segments.Sent.{Sent}
-use Rattle.pd_host.specs.AckEffects.{OnTheWay, octets_of, fill_noted_on, sent_as, one_filled, sender_of, pipe_of, filled, put_out_data_segment, entered_on, entry, after_ack_action, taking, ack_taken}
+use Rattle.pd_host.specs.AckEffects.{OnTheWay, octets_of, fill_noted_on, sent_as, one_filled, sender_of, pipe_of, filled, push_data_segment_to_outbox, entered_on, entry, after_ack_action, taking, ack_taken}
 use Rattle.pd_host.specs.Connection.{ConnectionView}
 use Rattle.pd_host.specs.Expiries.{advanced, deadline_of, due_by, expired, segment_again, connection_expired}
 use Rattle.pd_host.specs.Packets.{data_of}
@@ -171,7 +171,7 @@ filled_freed w now filling s =
 -- ---- the effects of an ACK
 
 put_freed : (w : List Sent) (now : ℕ) (segment : Span) (before after : ConnectionView) (s : SenderState)
-    → CameBy (in_front w) (put_out_data_segment now segment before after (in_front w s)) (put_out_data_segment now segment before after s)
+    → CameBy (in_front w) (push_data_segment_to_outbox now segment before after (in_front w s)) (push_data_segment_to_outbox now segment before after s)
 put_freed w now segment before after s =
     guarded_by (in_front w) (has_place (w ++ s.endpoint.outbox)) (has_place s.endpoint.outbox)
     (with_segment now segment before after (in_front w s)) (with_segment now segment before after s)
@@ -183,7 +183,7 @@ entry_freed w now c s =
     let sent : ConnectionView = entered_on segment (timing_started now segment c) c.established in
     let moved : SenderState = with_begun_connection (entered_on segment c c.established) s in
     either_by (in_front w) (nat_lt segment.start segment.end)
-    (put_out_data_segment now segment c sent (in_front w s)) (Ok (in_front w moved)) (put_out_data_segment now segment c sent s) (Ok moved)
+    (push_data_segment_to_outbox now segment c sent (in_front w s)) (Ok (in_front w moved)) (push_data_segment_to_outbox now segment c sent s) (Ok moved)
     (put_freed w now segment c sent s) (moved, refl, refl)
 
 led_to_freed : (w : List Sent) (now : ℕ) (c : ConnectionView) (s : SenderState) (next : AckAction) → CameBy (in_front w) (after_ack_action now c (in_front w s) next) (after_ack_action now c s next)
@@ -194,7 +194,7 @@ led_to_freed w now c s Entry =
 led_to_freed w now c s LimitedTransmit = filled_freed w now NewData s
 led_to_freed w now c s (NewSegment segment) = put_freed w now segment c (sent_on now segment c) s
 led_to_freed w now c s (FastRetransmit segment) =
-    then_by (in_front w) (in_front w) (ordinary now) (put_out_data_segment now segment c (timing_started now segment c) (in_front w s)) (put_out_data_segment now segment c (timing_started now segment c) s)
+    then_by (in_front w) (in_front w) (ordinary now) (push_data_segment_to_outbox now segment c (timing_started now segment c) (in_front w s)) (push_data_segment_to_outbox now segment c (timing_started now segment c) s)
     (put_freed w now segment c (timing_started now segment c) s) (λ t. ordinary_freed w now t)
 led_to_freed w now c s Nothing = (s, refl, refl)
 

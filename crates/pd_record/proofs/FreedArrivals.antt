@@ -4,7 +4,7 @@ use Rattle.pd_seg.specs.declared.segments.Segment.{Segment}
 use Rattle.pd_seg.specs.declared.segments.Sent.{Sent}
 use Rattle.pd_host.specs.Arrivals.{check_outcome, goes_on, finished_on, finished_by, arrived_on, arrived, failed_check_of, reset_of, with_peer_fin, with_connection}
 use Rattle.pd_host.specs.Connection.{ConnectionView}
-use Rattle.pd_host.specs.Handshake.{can_begin_connection, connection_begun, answered_syn, syn_settings, established_by, establishment_settings}
+use Rattle.pd_host.specs.Handshake.{is_supported_syn_for_listener, connection_begun, answered_syn, syn_settings, established_by, establishment_settings}
 use Rattle.pd_host.specs.Packets.{ack_of, refusal_of, syn_ack_of}
 use Rattle.pd_host.specs.OutboxLimit.{has_place}
 use Rattle.pd_host.specs.Host.{beside, put_out}
@@ -53,7 +53,7 @@ on_connection_freed : (w : List Sent) (o : Option ConnectionView) (segment : Seg
     → CameBy (in_front w) (arrived_on now segment (in_front w s) o) (arrived_on now segment s o)
 on_connection_freed w None segment now s =
     let begun : ConnectionView = connection_begun now s.settings segment in
-    either_by (in_front w) (can_begin_connection s.endpoint.listener segment) (answered_syn now begun (in_front w s)) (Err Unsupported) (answered_syn now begun s) (Err Unsupported)
+    either_by (in_front w) (is_supported_syn_for_listener s.endpoint.listener segment) (answered_syn now begun (in_front w s)) (Err Unsupported) (answered_syn now begun s) (Err Unsupported)
     (answered_freed w now (syn_ack_of begun) (record s { consulted_settings = syn_settings s.consulted_settings }) (record s.endpoint { connection = Some begun })) tt
 on_connection_freed w (Some c) segment now s =
     let r : Option SegmentCheck = failed_check_of c segment in

@@ -5,7 +5,7 @@ use Rattle.pd_seg.specs.declared.call_results.Answer.TheVariants.{Number, Error}
 use Rattle.pd_seg.specs.declared.call_results.Errno.TheVariants.{Ebadf, Einval, Eagain, Epipe}
 use Rattle.pd_seg.specs.declared.segments.Sent.{Sent}
 use Rattle.pd_script.specs.declared.calls.Call.{Call}
-use Rattle.pd_host.specs.Calls.{Descriptor, Listening, Connected, Reply, answered, with_listener, with_stored, with_answer, socket_reply, bind_reply, listen_reply, accept_reply, handed_out, no_delay_reply, free_of, with_queued, write_settings, queued, written_on, write_reply, closed_stream, closed_on, close_reply, operated, on_open, open_descriptor, reply_to, requested, called, has_unaccepted_connection, is_unaccepted, stream_of, with_stream, with_nagle}
+use Rattle.pd_host.specs.Calls.{Descriptor, Listening, Connected, Reply, answered, with_listener, with_stored, with_answer, socket_reply, bind_reply, listen_reply, accept_reply, handed_out, no_delay_reply, free_of, with_queued, write_settings, queued, written_on, write_reply, closed_stream, closed_on, close_reply, operated, on_open, open_descriptor, reply_to, requested, called, has_begun_unaccepted_connection, is_unaccepted, stream_of, with_stream, with_nagle}
 use Rattle.pd_host.specs.Connection.{ConnectionView}
 use Rattle.pd_host.specs.Syscalls.{syscall_of}
 use Rattle.pd_host.specs.Sending.{ordinary, ordinary_outside_recovery, is_recovering}
@@ -106,7 +106,7 @@ closed_freed w now c s =
 
 close_freed : (w : List Sent) (now : ℕ) (s : SenderState) (d : Descriptor) → Freed w (close_reply now (in_front w s) d) (close_reply now s d)
 close_freed w now s Listening =
-    either_by (beside_answer w) (has_unaccepted_connection s.endpoint.connection)
+    either_by (beside_answer w) (has_begun_unaccepted_connection s.endpoint.connection)
     (Err Unsupported) (answered (in_front w (with_listener Closed s)) (Number 0)) (Err Unsupported) (answered (with_listener Closed s) (Number 0))
     tt ((with_listener Closed s, Number 0), refl, refl)
 close_freed w now s (Connected c) = closed_freed w now c s

@@ -22,8 +22,8 @@ use Rattle.pd_match.specs.Calls.{result_mismatch}
 use Rattle.pd_match.specs.Packets.{mismatch}
 use Rattle.pd_run.specs.Prechecks.{failed_precheck}
 use Rattle.pd_run.specs.RunStates.{RunStateView, KeepsTime}
-use Rattle.pd_run.specs.Step.{tolerance_of, comparison_noted, on_step, with_state, action_time, acted, arrives, on_arrival, answers, on_answer, on_expiry, expires, awaited, packet_taken, leaves, performed, event_outcome, step}
-use Rattle.pd_run.specs.Times.{is_single_moment, time_of, time_range_of, may_be_in_time, base_after}
+use Rattle.pd_run.specs.Step.{tolerance_of, comparison_noted, on_step, with_state, action_time_not_before_clock, acted, arrives, on_arrival, answers, on_answer, on_expiry, expires, awaited, packet_taken, leaves, performed, perform_event_and_find_stop, step}
+use Rattle.pd_run.specs.Times.{is_single_moment, single_moment_or_base, time_range_of, is_not_too_late_within_tolerance, base_after_expected_packet}
 use Rattle.pd_run.specs.declared.stop_reason.StopReason.{StopReason}
 use Rattle.pd_run.specs.declared.stop_reason.StopReason.TheVariants.{Missing}
 use Rattle.pd_run.proofs.Bounds.{given, agreed, goes, unbarred, step_performs}
@@ -31,13 +31,13 @@ use Rattle.pd_record.specs.Recorder.{oldest_of, or_expired, due_where, leaves_ne
 
 -- no check barred an event whose step goes on
 pub step_unbarred : (r s : RunStateView) (e : Event) → step r e ≡ Ok s → failed_precheck r.base e ≡ None
-step_unbarred r s e h = (unbarred (performed r e e.action) (failed_precheck r.base e) s (goes e.line (event_outcome r e) s h)).0
+step_unbarred r s e h = (unbarred (performed r e e.action) (failed_precheck r.base e) s (goes e.line (perform_event_and_find_stop r e) s h)).0
 
 -- ---- inputs
 
 -- after an input the clock and the base are those of its moment
 abbrev Acted : RunStateView → RunStateView → Event → Type 0
-Acted r s e = (s.base ≡ time_of r.base e.time) × (s.clock ≡ action_time r e)
+Acted r s e = (s.base ≡ single_moment_or_base r.base e.time) × (s.clock ≡ action_time_not_before_clock r e)
 
 arrived_acted : (r s : RunStateView) (e : Event) (came : Result SenderState Halt) → on_arrival r e came ≡ Ok s → Acted r s e
 arrived_acted r s e (Ok t) h = subst (λ (x : RunStateView). Acted r x e) (given (acted r e t) s h) (refl, refl)
@@ -59,13 +59,13 @@ after_call r s e call is h = answered_acted r s e call (answers r e call) (subst
 abbrev Taken : RunStateView → RunStateView → Event → Packet → Type 0
 Taken r s e p =
     (q : RunStateView) × (sent : Sent) × (awaited (comparison_noted r) e ≡ Ok q) × (slice_get q.host.state.endpoint.outbox 0 ≡ Some sent)
-    × (s.base ≡ base_after q.base e.time sent.at) × (s.clock ≡ q.clock)
+    × (s.base ≡ base_after_expected_packet q.base e.time sent.at) × (s.clock ≡ q.clock)
 
 took : (e : Event) (p : Packet) (q s : RunStateView) (o : Option Sent) → slice_get q.host.state.endpoint.outbox 0 ≡ o → packet_taken e p q o ≡ Ok s
-    → (sent : Sent) × (slice_get q.host.state.endpoint.outbox 0 ≡ Some sent) × (s.base ≡ base_after q.base e.time sent.at) × (s.clock ≡ q.clock)
+    → (sent : Sent) × (slice_get q.host.state.endpoint.outbox 0 ≡ Some sent) × (s.base ≡ base_after_expected_packet q.base e.time sent.at) × (s.clock ≡ q.clock)
 took e p q s None is h = absurd cc
 took e p q s (Some sent) is h =
-    let next : RunStateView = record q { host = without_oldest q.host; base = base_after q.base e.time sent.at } in
+    let next : RunStateView = record q { host = without_oldest q.host; base = base_after_expected_packet q.base e.time sent.at } in
     let same : next ≡ s = agreed next s _ (mismatch p (time_range_of q.base e.time) sent (tolerance_of q)) h in
     (sent, is, sym (ap (λ (x : RunStateView). x.base) same), sym (ap (λ (x : RunStateView). x.clock) same))
 
@@ -86,7 +86,7 @@ after_packet r s e p is h = after_leaving r s e p (subst (λ (a : Action). perfo
 -- the awaited packet was there, or the next expiry sent it
 abbrev pub Awaited : RunStateView → RunStateView → Event → Type 0
 Awaited r q e = (length r.host.state.endpoint.outbox ≡ 0) × (at : ℕ) × (t : SenderState) × (deadline_of r.host.state ≡ Some at) × (advanced at r.host.state ≡ Ok t) × (q ≡ record (with_state r t) { clock = at })
-    × (may_be_in_time (time_range_of r.base e.time) (tolerance_of r) at ≡ true)
+    × (is_not_too_late_within_tolerance (time_range_of r.base e.time) (tolerance_of r) at ≡ true)
 
 on_time : (r q : RunStateView) (at : ℕ) (came : Result SenderState Halt) → on_expiry r at came ≡ Ok q → (t : SenderState) × (came ≡ Ok t) × (q ≡ record (with_state r t) { clock = at })
 on_time r q at (Ok t) h = (t, refl, sym (given (record (with_state r t) { clock = at }) q h))
@@ -98,10 +98,10 @@ in_reach false came q h = absurd cc
 
 expired_at : (r q : RunStateView) (e : Event) (o : Option ℕ) → deadline_of r.host.state ≡ o → expires r e o ≡ Ok q
     → (at : ℕ) × (t : SenderState) × (deadline_of r.host.state ≡ Some at) × (advanced at r.host.state ≡ Ok t) × (q ≡ record (with_state r t) { clock = at })
-    × (may_be_in_time (time_range_of r.base e.time) (tolerance_of r) at ≡ true)
+    × (is_not_too_late_within_tolerance (time_range_of r.base e.time) (tolerance_of r) at ≡ true)
 expired_at r q e None is h = absurd cc
 expired_at r q e (Some at) is h =
-    let reached = in_reach (may_be_in_time (time_range_of r.base e.time) (tolerance_of r) at) (on_expiry r at (advanced at r.host.state)) q h in
+    let reached = in_reach (is_not_too_late_within_tolerance (time_range_of r.base e.time) (tolerance_of r) at) (on_expiry r at (advanced at r.host.state)) q h in
     let came = on_time r q at (advanced at r.host.state) reached.0 in
     (at, came.0, is, came.1, came.2, reached.1)
 
@@ -225,21 +225,21 @@ sent_at_expiry puts_after s t at sent empty due went first =
 pub record IsMoved (may : ℕ → Bool) (r s : RunStateView) (time : Time) (sent : Sent) : Type 0 where
   pub left : sent.at ≤ s.clock
   pub clock : r.clock ≤ s.clock
-  pub base : s.base ≡ time_of r.base time
+  pub base : s.base ≡ single_moment_or_base r.base time
   pub until : (until : ℕ) → ((at : ℕ) → may at ≡ true → at ≤ until) → r.clock ≤ until → s.clock ≤ until
 
-single_base : (base : ℕ) (time : Time) (at : ℕ) → is_single_moment time ≡ true → base_after base time at ≡ time_of base time
-single_base base time at single = ap (λ (b : Bool). if b then time_of base time else max base at) single
+single_base : (base : ℕ) (time : Time) (at : ℕ) → is_single_moment time ≡ true → base_after_expected_packet base time at ≡ single_moment_or_base base time
+single_base base time at single = ap (λ (b : Bool). if b then single_moment_or_base base time else max base at) single
 
 stood : (may : ℕ → Bool) (r s q : RunStateView) (e : Event) (sent other : Sent) → is_single_moment e.time ≡ true → KeepsTime r.clock r.host.state
-    → Stands r sent → q ≡ comparison_noted r → s.base ≡ base_after q.base e.time other.at → s.clock ≡ q.clock → IsMoved may r s e.time sent
+    → Stands r sent → q ≡ comparison_noted r → s.base ≡ base_after_expected_packet q.base e.time other.at → s.clock ≡ q.clock → IsMoved may r s e.time sent
 stood may r s q e sent other single up stands same base clock =
     let its : s.clock ≡ r.clock = clock ∙ ap (λ (x : RunStateView). x.clock) same in
     let at : sent.at ≤ r.clock = first_in_order r.clock r.host.state.endpoint.outbox sent up.up_to.packets stands in
     record {
       left = omega (arith, its, at);
       clock = omega (arith, its);
-      base = base ∙ (ap (λ (x : RunStateView). base_after x.base e.time other.at) same ∙ single_base r.base e.time other.at single);
+      base = base ∙ (ap (λ (x : RunStateView). base_after_expected_packet x.base e.time other.at) same ∙ single_base r.base e.time other.at single);
       until = λ until bounds early. omega (arith, its, early);
     }
 
@@ -248,7 +248,7 @@ ahead now most None at h is = absurd cc
 ahead now most (Some d) at h is = let same : d ≡ at = cc in subst (λ (x : ℕ). now < x) same h.0
 
 came : (puts_after : AdvancesPutOutAfter) (may : ℕ → Bool) (r s q : RunStateView) (e : Event) (sent other : Sent) → is_single_moment e.time ≡ true → KeepsTime r.clock r.host.state
-    → Expires may r sent → Awaited (comparison_noted r) q e → s.base ≡ base_after q.base e.time other.at → s.clock ≡ q.clock → IsMoved may r s e.time sent
+    → Expires may r sent → Awaited (comparison_noted r) q e → s.base ≡ base_after_expected_packet q.base e.time other.at → s.clock ≡ q.clock → IsMoved may r s e.time sent
 came puts_after may r s q e sent other single up h wait base clock =
     let due : wait.1 ≡ h.1 = (let both_due : Some wait.1 ≡ Some h.1 = sym wait.3 ∙ h.3 in cc) in
     let its : s.clock ≡ wait.1 = clock ∙ ap (λ (x : RunStateView). x.clock) wait.5 in
@@ -257,7 +257,7 @@ came puts_after may r s q e sent other single up h wait base clock =
     record {
       left = omega (arith, its, at, due);
       clock = omega (arith, its, later, due);
-      base = base ∙ (ap (λ (x : RunStateView). base_after x.base e.time other.at) wait.5 ∙ single_base r.base e.time other.at single);
+      base = base ∙ (ap (λ (x : RunStateView). base_after_expected_packet x.base e.time other.at) wait.5 ∙ single_base r.base e.time other.at single);
       until = λ until bounds early. (let within : h.1 ≤ until = bounds h.1 h.4 in omega (arith, its, due, within));
     }
 
@@ -267,7 +267,7 @@ moved puts_after may r s e p sent is single up next h =
     let last = after_packet r s e p is h in
     go last.0 last.1 last.3 last.4 last.5 (what_leaves may r sent next) (which_awaited (comparison_noted r) last.0 e last.2)
   where
-    go : (q : RunStateView) (other : Sent) → slice_get q.host.state.endpoint.outbox 0 ≡ Some other → s.base ≡ base_after q.base e.time other.at → s.clock ≡ q.clock
+    go : (q : RunStateView) (other : Sent) → slice_get q.host.state.endpoint.outbox 0 ≡ Some other → s.base ≡ base_after_expected_packet q.base e.time other.at → s.clock ≡ q.clock
         → Stands r sent ⊎ Expires may r sent → (q ≡ comparison_noted r) ⊎ Awaited (comparison_noted r) q e → IsMoved may r s e.time sent
     go q other there base clock (inl stands) (inl same) = stood may r s q e sent other single up stands same base clock
     go q other there base clock (inl stands) (inr wait) =
@@ -278,12 +278,12 @@ moved puts_after may r s e p sent is single up next h =
 
 -- an expected packet at the moment of one that left meets it again
 pub met_again : AdvancesPutOutAfter → (may : ℕ → Bool) (r : RunStateView) (sent : Sent) (tolerance : ℕ) → leaves_next may r ≡ Some sent
-    → leaves_next (may_be_in_time (Some (r.base + (sent.at - r.base), r.base + (sent.at - r.base))) tolerance) r ≡ Some sent
+    → leaves_next (is_not_too_late_within_tolerance (Some (r.base + (sent.at - r.base), r.base + (sent.at - r.base))) tolerance) r ≡ Some sent
 met_again puts_after may r sent tolerance next = go (what_leaves may r sent next)
   where
-    go : Stands r sent ⊎ Expires may r sent → leaves_next (may_be_in_time (Some (r.base + (sent.at - r.base), r.base + (sent.at - r.base))) tolerance) r ≡ Some sent
-    go (inl stands) = stands_next (may_be_in_time (Some (r.base + (sent.at - r.base), r.base + (sent.at - r.base))) tolerance) r sent stands
+    go : Stands r sent ⊎ Expires may r sent → leaves_next (is_not_too_late_within_tolerance (Some (r.base + (sent.at - r.base), r.base + (sent.at - r.base))) tolerance) r ≡ Some sent
+    go (inl stands) = stands_next (is_not_too_late_within_tolerance (Some (r.base + (sent.at - r.base), r.base + (sent.at - r.base))) tolerance) r sent stands
     go (inr h) =
         let at : sent.at ≡ h.1 = sent_at_expiry puts_after r.host.state h.2 h.1 sent (none_in r.host.state.endpoint.outbox h.0) h.3 h.5 h.6 in
-        expires_next may (may_be_in_time (Some (r.base + (sent.at - r.base), r.base + (sent.at - r.base))) tolerance) r sent h
+        expires_next may (is_not_too_late_within_tolerance (Some (r.base + (sent.at - r.base), r.base + (sent.at - r.base))) tolerance) r sent h
         (le-leb h.1 (r.base + (sent.at - r.base) + tolerance) (omega (arith, at)))

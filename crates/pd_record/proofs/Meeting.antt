@@ -12,7 +12,7 @@ use Rattle.pd_host.specs.declared.endpoint.SenderState.{SenderState}
 use Rattle.pd_match.specs.Packets.{mismatch}
 use Rattle.pd_print.specs.Sent.{packet_of}
 use Rattle.pd_run.specs.Step.{RunStateView, tolerance_of, comparison_noted, on_step, with_state, awaited, packet_taken as compared, leaves}
-use Rattle.pd_run.specs.Times.{time_range_of, may_be_in_time, base_after}
+use Rattle.pd_run.specs.Times.{time_range_of, is_not_too_late_within_tolerance, base_after_expected_packet}
 use Rattle.pd_run.specs.declared.stop_reason.StopReason.{StopReason}
 use Rattle.pd_run.proofs.Bounds.{agreed, step_performs}
 use Rattle.pd_record.specs.FollowsRun.{input_at, inputs_in, departure_at, departures_in, departed}
@@ -57,7 +57,7 @@ abbrev pub Waits : RunStateView → RunStateView → Event → SenderState → T
 Waits r s e before =
     ((before ≡ r.host.state) × (s.clock ≡ r.clock))
     ⊎ ((length r.host.state.endpoint.outbox ≡ 0) × (at : ℕ) × (deadline_of r.host.state ≡ Some at) × (advanced at r.host.state ≡ Ok before)
-    × (may_be_in_time (time_range_of r.base e.time) (tolerance_of r) at ≡ true) × (s.clock ≡ at))
+    × (is_not_too_late_within_tolerance (time_range_of r.base e.time) (tolerance_of r) at ≡ true) × (s.clock ≡ at))
 
 -- the packet that it took, and the run after it
 pub record Met (r s : RunStateView) (e : Event) (sent : Sent) : Type 0 where
@@ -65,13 +65,13 @@ pub record Met (r s : RunStateView) (e : Event) (sent : Sent) : Type 0 where
   pub first : slice_get before.endpoint.outbox 0 ≡ Some sent
   pub waits : Waits r s e before
   pub state : s.host.state ≡ without_first before
-  pub base : s.base ≡ base_after r.base e.time sent.at
+  pub base : s.base ≡ base_after_expected_packet r.base e.time sent.at
   pub header_tolerance : s.header_tolerance ≡ r.header_tolerance
   pub happened : on_step (λ q. take 1 q.host.state.endpoint.outbox) (λ v. []) (awaited (comparison_noted r) e) ≡ sent ∷ []
 
 -- a run after the oldest packet was taken
 abbrev taken_by : RunStateView → Event → Sent → RunStateView
-taken_by q e sent = record q { host = without_oldest q.host; base = base_after q.base e.time sent.at }
+taken_by q e sent = record q { host = without_oldest q.host; base = base_after_expected_packet q.base e.time sent.at }
 
 took : (e : Event) (p : Packet) (q s : RunStateView) (o : Option Sent) → slice_get q.host.state.endpoint.outbox 0 ≡ o → compared e p q o ≡ Ok s
     → (sent : Sent) × (slice_get q.host.state.endpoint.outbox 0 ≡ Some sent) × (taken_by q e sent ≡ s)

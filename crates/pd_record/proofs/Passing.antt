@@ -12,12 +12,12 @@ use Rattle.pd_seg.specs.declared.segments.Sent.{Sent}
 use Rattle.pd_run.specs.Run.{start_of, verdict_from}
 use Rattle.pd_print.specs.Sent.{packet_of}
 use Rattle.pd_run.specs.Step.{RunStateView, on_step, step}
-use Rattle.pd_run.specs.Times.{time_of, time_range_of, may_be_in_time}
+use Rattle.pd_run.specs.Times.{single_moment_or_base, time_range_of, is_not_too_late_within_tolerance}
 use Rattle.pd_run.specs.Step.{tolerance_of}
 use Rattle.pd_run.specs.declared.verdict.Verdict.{Verdict}
 use Rattle.pd_run.specs.declared.verdict.Verdict.TheVariants.{Pass}
 use Rattle.pd_record.specs.Recording.{RecordedScriptView, records, closed, recorded_script_of, events_in, events_recorded, events_of_all, events_of}
-use Rattle.pd_record.specs.Recorder.{RecorderView, EventRecordingView, Answers, then_do, unless, blank_from, gone_to, stepped, recorded_as, event_at, refusal_at, happened, leaves_next, departs, with_unmet, comes, comes_on, left_by, with_base, action_time, inputs, arrives, answer_at, with_answer, recorded_answer_of, calls, based_after, meets, meets_oldest, precheck_at, performed, recorded}
+use Rattle.pd_record.specs.Recorder.{RecorderView, EventRecordingView, Answers, then_do, unless, blank_from, gone_to, stepped, recorded_as, event_at, refusal_if_over_event_or_gap_limit, happened, leaves_next, departs, with_unmet, comes, comes_on, left_by, with_base, action_time_not_before_clock, inputs, arrives, answer_at, with_answer, recorded_answer_of, calls, based_after, meets, meets_oldest, precheck_at, performed, recorded}
 use Rattle.pd_record.specs.declared.record_error.RecordError.{RecordError}
 use Rattle.pd_record.specs.declared.record_error.RecordError.TheVariants.{Stopped}
 use Rattle.pd_record.specs.declared.recorded.OwnEvent.{OwnEvent}
@@ -77,7 +77,7 @@ step_goes t u e (Err v) is h = absurd cc
 pub happened_goes : (t : RecorderView) (line at : ℕ) (action : Action) (y : RecorderView × RecordedEvent) → happened t line at action ≡ Ok y → Went alone t y
 happened_goes t line at action y h =
     let e = event_at t line at action in
-    let free = no_refusal (then_do (λ (u : RecorderView). ok (u, recorded_as at e)) (stepped t e)) (refusal_at t at) y h in
+    let free = no_refusal (then_do (λ (u : RecorderView). ok (u, recorded_as at e)) (stepped t e)) (refusal_if_over_event_or_gap_limit t at) y h in
     let b = both (λ (u : RecorderView). ok (u, recorded_as at e)) (stepped t e) y free.1 in
     subst (Went alone t) (given (b.0, recorded_as at e) y b.2) (b.0.run, step_goes t b.0 e (step t.run e) refl b.1, refl)
 
@@ -128,10 +128,10 @@ Acts act = (t : RecorderView) (y : RecorderView × OwnEvent) → act t ≡ Ok y 
 
 input_goes : (act : RecorderView → Answers (RecorderView × OwnEvent)) → Acts act → (t : RecorderView) (e : Event) (y : RecorderView × EventRecordingView) → inputs act t e ≡ Ok y → Went events_recorded t y
 input_goes act goes t e y h =
-    let after : RecorderView × List RecordedEvent → RecorderView × OwnEvent → RecorderView × EventRecordingView = λ x z. (with_base (time_of t.base e.time) z.0, took x.1 (Some z.1)) in
-    let a = both (λ (x : RecorderView × List RecordedEvent). then_do (λ (z : RecorderView × OwnEvent). ok (after x z)) (act x.0)) (left_by e.line (action_time t e) t) y h in
+    let after : RecorderView × List RecordedEvent → RecorderView × OwnEvent → RecorderView × EventRecordingView = λ x z. (with_base (single_moment_or_base t.base e.time) z.0, took x.1 (Some z.1)) in
+    let a = both (λ (x : RecorderView × List RecordedEvent). then_do (λ (z : RecorderView × OwnEvent). ok (after x z)) (act x.0)) (left_by e.line (action_time_not_before_clock t e) t) y h in
     let b = both (λ (z : RecorderView × OwnEvent). ok (after a.0 z)) (act a.0.0) y a.2 in
-    let left = left_goes e.line (action_time t e) t a.0 a.1 in
+    let left = left_goes e.line (action_time_not_before_clock t e) t a.0 a.1 in
     subst (Went events_recorded t) (given (after a.0 b.0) y b.2) (through_both (events_in a.0.1) (owned b.0.1) t.run a.0.0.run b.0.0.run left (goes a.0.0 b.0 b.1))
 
 arrival_goes : (line at : ℕ) (packet : Packet) → Acts (arrives line at packet)
@@ -156,16 +156,16 @@ meeting_goes t e y (Some sent) h =
     subst (Went events_recorded t) (given (after b.0) y b.2) (happened_goes t e.line sent.at (Outbound (packet_of sent.segment)) b.0 b.1)
 
 expected_goes : (t : RecorderView) (e : Event) (y : RecorderView × EventRecordingView) (unmet : List ℕ) → meets_oldest t e unmet ≡ Ok y → Went events_recorded t y
-expected_goes t e y [] h = meeting_goes t e y (leaves_next (may_be_in_time (time_range_of t.base e.time) (tolerance_of t.run)) t.run) h
+expected_goes t e y [] h = meeting_goes t e y (leaves_next (is_not_too_late_within_tolerance (time_range_of t.base e.time) (tolerance_of t.run)) t.run) h
 expected_goes t e y (at ∷ others) h =
     subst (Went events_recorded t) (given (based_after e.time (Some at) (record t { unmet = others }), took [] None) y h) refl
 
 -- ---- events of the script
 
 performed_goes : (t : RecorderView) (e : Event) (y : RecorderView × EventRecordingView) (action : Action) → performed t e action ≡ Ok y → Went events_recorded t y
-performed_goes t e y (Inbound packet) h = input_goes (arrives e.line (action_time t e) packet) (arrival_goes e.line (action_time t e) packet) t e y h
+performed_goes t e y (Inbound packet) h = input_goes (arrives e.line (action_time_not_before_clock t e) packet) (arrival_goes e.line (action_time_not_before_clock t e) packet) t e y h
 performed_goes t e y (Outbound packet) h = expected_goes t e y t.unmet h
-performed_goes t e y (Calls call) h = input_goes (calls e.line (action_time t e) call) (call_goes e.line (action_time t e) call) t e y h
+performed_goes t e y (Calls call) h = input_goes (calls e.line (action_time_not_before_clock t e) call) (call_goes e.line (action_time_not_before_clock t e) call) t e y h
 performed_goes t e y Command h = absurd cc
 performed_goes t e y Code h = absurd cc
 

@@ -11,7 +11,7 @@ use Rattle.pd_script.specs.declared.script_events.Event.{Event}
 use Rattle.pd_seg.specs.declared.segments.Sent.{Sent}
 use Rattle.pd_print.specs.Sent.{packet_of}
 use Rattle.pd_run.specs.Run.{on_script, verdict_of}
-use Rattle.pd_run.specs.Step.{RunStateView, comparison_noted, action_time, awaited, on_step, step}
+use Rattle.pd_run.specs.Step.{RunStateView, comparison_noted, action_time_not_before_clock, awaited, on_step, step}
 use Rattle.pd_run.specs.declared.verdict.Verdict.TheVariants.{Pass}
 use Rattle.pd_record.specs.Recording.{RecordedScriptView, recording_of, events_in, events_of}
 use Rattle.pd_record.specs.Recorder.{EventRecordingView}
@@ -32,7 +32,7 @@ input_at at _ = []
 -- the inputs of a run, in their order, each with the moment at which it acts
 abbrev pub inputs_from : List Event → RunStateView → List (ℕ × Input)
 inputs_from [] r = []
-inputs_from (e ∷ es) r = input_at (action_time r e) e.action ++ on_step (inputs_from es) (λ v. []) (step r e)
+inputs_from (e ∷ es) r = input_at (action_time_not_before_clock r e) e.action ++ on_step (inputs_from es) (λ v. []) (step r e)
 
 -- the packet that a run takes at an action, if it expects one: the oldest unmatched one, else the one that the next expiry sends
 abbrev pub matched_at : RunStateView → Event → Action → List Sent

@@ -23,7 +23,7 @@ use Rattle.pd_run.specs.Prechecks.{failed_precheck}
 use Rattle.pd_run.specs.Run.{start_of}
 use Rattle.pd_run.specs.RunStates.{RunStateView}
 use Rattle.pd_run.specs.Step.{tolerance_of, step}
-use Rattle.pd_run.specs.Times.{time_of, time_range_of, may_be_in_time, base_after}
+use Rattle.pd_run.specs.Times.{single_moment_or_base, time_range_of, is_not_too_late_within_tolerance, base_after_expected_packet}
 use Rattle.pd_run.specs.Verdicts.{precheck_verdict, verdict_by}
 use Rattle.pd_run.specs.declared.verdict.Verdict.{Verdict}
 use Rattle.pd_run.specs.declared.verdict.Verdict.TheVariants as verdict
@@ -68,8 +68,8 @@ recorder_at_start header settings = blank_from (start_of header settings)
 -- ---- one event of the recording
 
 -- why nothing is recorded at a moment: it would be the 4,097th event, or come more than 3,600 seconds after the one before
-abbrev pub refusal_at : RecorderView → ℕ → Option RecordError
-refusal_at t at =
+abbrev pub refusal_if_over_event_or_gap_limit : RecorderView → ℕ → Option RecordError
+refusal_if_over_event_or_gap_limit t at =
     if nat_le 4096 t.count then Some TooManyEvents
     else (if nat_lt 3600000000 (at - t.run.base) then Some TooLongGap else None)
 
@@ -98,7 +98,7 @@ recorded_as at e = record { event = e; at = at }
 -- an event at a moment is recorded; halts are reported at a line of the script
 abbrev pub happened : RecorderView → ℕ → ℕ → Action → Answers (RecorderView × RecordedEvent)
 happened t line at action =
-    unless (then_do (λ u. Ok (u, recorded_as at (event_at t line at action))) (stepped t (event_at t line at action))) (refusal_at t at)
+    unless (then_do (λ u. Ok (u, recorded_as at (event_at t line at action))) (stepped t (event_at t line at action))) (refusal_if_over_event_or_gap_limit t at)
 
 -- ---- packets that leave
 
@@ -114,8 +114,8 @@ or_expired s None None = None
 or_expired s None (Some at) = oldest_of (advanced at s)
 
 -- the packet that leaves next: the oldest that is unmatched, else the one that the next expiry sends, if one may come
-abbrev pub next_packet : SenderState → Option ℕ → Option Sent
-next_packet s due = or_expired s (slice_get s.endpoint.outbox 0) due
+abbrev pub oldest_unmatched_or_next_expiry_packet : SenderState → Option ℕ → Option Sent
+oldest_unmatched_or_next_expiry_packet s due = or_expired s (slice_get s.endpoint.outbox 0) due
 
 -- the moment of an expiry that may come
 abbrev pub due_where : (ℕ → Bool) → Option ℕ → Option ℕ
@@ -124,7 +124,7 @@ due_where may_come (Some at) = if may_come at then Some at else None
 
 -- the packet of a run that leaves next, by expiries that may come
 abbrev pub leaves_next : (ℕ → Bool) → RunStateView → Option Sent
-leaves_next may_come r = next_packet r.host.state (due_where may_come (deadline_of r.host.state))
+leaves_next may_come r = oldest_unmatched_or_next_expiry_packet r.host.state (due_where may_come (deadline_of r.host.state))
 
 -- a packet is recorded as it left, at its own moment
 abbrev pub departs : RecorderView → ℕ → Sent → Answers (RecorderView × RecordedEvent)
@@ -158,14 +158,14 @@ abbrev pub with_base : ℕ → RecorderView → RecorderView
 with_base base t = record t { base = base }
 
 -- an input acts at the later of its time and the clock
-abbrev pub action_time : RecorderView → Event → ℕ
-action_time t e = max (time_of t.base e.time) t.run.clock
+abbrev pub action_time_not_before_clock : RecorderView → Event → ℕ
+action_time_not_before_clock t e = max (single_moment_or_base t.base e.time) t.run.clock
 
 -- packets that left before an input come before it; afterwards the base is the input's time
 abbrev pub inputs : (RecorderView → Answers (RecorderView × OwnEvent)) → RecorderView → Event → Answers (RecorderView × EventRecordingView)
 inputs act t e =
-    then_do (λ x. then_do (λ y. Ok (with_base (time_of t.base e.time) y.0, record { before = x.1; own = Some y.1 })) (act x.0))
-    (left_by e.line (action_time t e) t)
+    then_do (λ x. then_do (λ y. Ok (with_base (single_moment_or_base t.base e.time) y.0, record { before = x.1; own = Some y.1 })) (act x.0))
+    (left_by e.line (action_time_not_before_clock t e) t)
 
 -- a packet arrives
 abbrev pub arrives : ℕ → ℕ → Packet → RecorderView → Answers (RecorderView × OwnEvent)
@@ -178,7 +178,7 @@ answered line (Err halt) = Err (Stopped (verdict_by line halt))
 
 -- the sender's answer to a call at a moment
 abbrev pub answer_at : RecorderView → ℕ → ℕ → Call → Answers Answer
-answer_at t line at call = unless (answered line (then_on (called call at) (advanced at t.run.host.state))) (refusal_at t at)
+answer_at t line at call = unless (answered line (then_on (called call at) (advanced at t.run.host.state))) (refusal_if_over_event_or_gap_limit t at)
 
 -- the same call with an answer for its result
 abbrev pub with_answer : Call → Answer → Call
@@ -200,7 +200,7 @@ calls line at call t =
 
 -- the base after an expected packet that met one which left at a moment, or none
 abbrev pub based_after : Time → Option ℕ → RecorderView → RecorderView
-based_after time met t = with_base (base_after t.base time (unwrap_or met t.base)) t
+based_after time met t = with_base (base_after_expected_packet t.base time (unwrap_or met t.base)) t
 
 -- an expected packet that no recorded one is there for meets the one that leaves next, if any does
 abbrev pub meets : RecorderView → Event → Option Sent → Answers (RecorderView × EventRecordingView)
@@ -213,7 +213,7 @@ meets t e (Some sent) =
 -- next, by an expiry within reach
 abbrev pub meets_oldest : RecorderView → Event → List ℕ → Answers (RecorderView × EventRecordingView)
 meets_oldest t e (at ∷ others) = Ok (based_after e.time (Some at) (record t { unmet = others }), record { before = []; own = None })
-meets_oldest t e [] = meets t e (leaves_next (may_be_in_time (time_range_of t.base e.time) (tolerance_of t.run)) t.run)
+meets_oldest t e [] = meets t e (leaves_next (is_not_too_late_within_tolerance (time_range_of t.base e.time) (tolerance_of t.run)) t.run)
 
 -- an expected packet meets the oldest that none has met
 abbrev pub expects : RecorderView → Event → Answers (RecorderView × EventRecordingView)
@@ -227,9 +227,9 @@ precheck_at t e = option_map (λ bar. Stopped (precheck_verdict e.line bar)) (fa
 
 -- the recording of an action
 abbrev pub performed : RecorderView → Event → Action → Answers (RecorderView × EventRecordingView)
-performed t e (Inbound packet) = inputs (arrives e.line (action_time t e) packet) t e
+performed t e (Inbound packet) = inputs (arrives e.line (action_time_not_before_clock t e) packet) t e
 performed t e (Outbound packet) = expects t e
-performed t e (Calls call) = inputs (calls e.line (action_time t e) call) t e
+performed t e (Calls call) = inputs (calls e.line (action_time_not_before_clock t e) call) t e
 performed t e _ = Err (Stopped (verdict.Unsupported e.line))
 
 -- the recording of an event of the script

@@ -1,6 +1,6 @@
 //! Where recording a script stops, for those who explain it.
 ghost use Rattle.std.specs.Prelude.{◌≡◌, ◌≤◌, IfOk, length};
-ghost use Rattle.pd_record.specs.Stops.{recording_stop, stop_if_on_line, stop_from};
+ghost use Rattle.pd_record.specs.Stops.{recording_stop, snapshot_recorder_if_event_on_line, stop_from};
 ghost use Rattle.pd_record.specs.Inner.{Sound};
 
 use crate::record_error::RecordError;
@@ -26,7 +26,7 @@ pub struct RecordingStop {
 ///
 /// # Errors
 /// `AllocError` where a growth is refused.
-pub fn find_recording_stop(
+pub fn find_recorder_state_stopped_on_line(
     alloc: Global,
     header: &Header,
     events: &[Event],
@@ -57,8 +57,8 @@ fn record_to_stop_on_line(
     let mut recorder = start;
     let mut passed = 0;
     for event in events {
-        let stop = stop_if_on_line(&recorder, event, passed, line)?;
-        match recorder.record(alloc, event) {
+        let stop = snapshot_recorder_if_event_on_line(&recorder, event, passed, line)?;
+        match recorder.record_script_event(alloc, event) {
             Ok(_) => passed += 1,
             Err(RecordError::OutOfMemory) => return Err(AllocError),
             Err(_) => return Ok(stop),
@@ -68,13 +68,13 @@ fn record_to_stop_on_line(
 }
 
 /// How recording stands at an event on a line, after so many others.
-fn stop_if_on_line(
+fn snapshot_recorder_if_event_on_line(
     recorder: &Recorder,
     event: &Event,
     passed: usize,
     line: usize,
 ) -> Result<Option<RecordingStop>, AllocError>
-    ensures { IfOk result (λ stop. stop ≡ stop_if_on_line line passed recorder.now event.now) }
+    ensures { IfOk result (λ stop. stop ≡ snapshot_recorder_if_event_on_line line passed recorder.now event.now) }
 {
     if event.line != line {
         return Ok(None);

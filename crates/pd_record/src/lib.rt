@@ -1,15 +1,16 @@
 //! Recordings: a script's inputs with the sender's answers and packets, as a script that passes.
 //!
-//! `record` gives the `Recording` of a text: its lines, how many events it has and, for a trace, a
-//! `TraceEntry` of each event that has the sender's state (`TraceSnapshot`). `RecordError` gives
-//! the reason why there is none, and `find_recording_stop` where on a line recording stops.
+//! `record_script_text` gives the `Recording` of a text: its lines, how many events it has and, for a
+//! trace, a `TraceEntry` of each event that has the sender's state (`TraceSnapshot`). `RecordError` gives
+//! the reason why there is none, and `find_recorder_state_stopped_on_line` where on a line recording
+//! stops.
 //!
 //! ```text
 //!     text --> events --> Recorder: the recording of each event, step by step
 //!      |                     | no trace is asked for, these are the text's own events, and
 //!      |                     | it has the layout of recordings: the text itself
 //!      |                     v else
-//!      '--> LayoutReader --> Writer: the lines --> read again: is_canonical_script --no--> Differs
+//!      '--> LayoutReader --> Writer: the lines --> read again: is_canonical_text_of_header_and_events --no--> Differs
 //!                                                     '-- yes --> the recording
 //! ```
 //!
@@ -42,8 +43,8 @@ mod results;
 mod unchanged;
 mod writer;
 
-pub use find_stop::{RecordingStop, find_recording_stop};
+pub use find_stop::{RecordingStop, find_recorder_state_stopped_on_line};
 pub use record_error::RecordError;
 pub use recorded::TraceSnapshot;
-pub use recording::record;
+pub use recording::record_script_text;
 pub use recording_text::{Recording, TraceEntry, TraceOrigin};

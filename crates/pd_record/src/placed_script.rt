@@ -24,14 +24,17 @@ pub struct Script {
 /// # Errors
 /// `AllocError` where a growth is refused.
 #[tactic(auto, unfolding(pd_script::specs::Script::script_of, pd_script::specs::Script::script_in))]
-pub fn read_script(alloc: Global, lines: &Lines) -> Result<Option<Script>, AllocError>
+pub fn read_placed_script_if_valid(
+    alloc: Global,
+    lines: &Lines,
+) -> Result<Option<Script>, AllocError>
     ensures read { IfOk result (IsRead (script_of lines.now)) }
     ensures few { IfOk result (λ read. IfSome read (λ script. length script.events.items ≤ 4096)) }
 {
     let header = read_header(alloc, lines)?;
     let mut reader = EventReader::at(lines, header.end());
     let mut places = Vec::new(alloc);
-    match read_events(alloc, &mut reader, &mut places)? {
+    match read_events_and_places_or_none(alloc, &mut reader, &mut places)? {
         Some(events) => Ok(Some(Script {
             header,
             events,
@@ -42,7 +45,7 @@ pub fn read_script(alloc: Global, lines: &Lines) -> Result<Option<Script>, Alloc
 }
 
 /// Reads the events that are left, and the place of the token after each; nothing where no script goes on to the end.
-fn read_events(
+fn read_events_and_places_or_none(
     alloc: Global,
     reader: &mut EventReader,
     places: &mut Vec<Place>,
@@ -53,12 +56,12 @@ fn read_events(
     let mut events = Vec::new(alloc);
     'events: for i in 0..MAX_EVENTS {
         let mut event = Event::placeholder();
-        match reader.read_event(alloc, &mut event)? {
+        match reader.read_next_event_into(alloc, &mut event)? {
             NextEventStatus::After(after, lookahead_line) => {
                 if i + 1 == MAX_EVENTS && lookahead_line.is_some() {
                     return Ok(None);
                 }
-                append_event(&mut events, event)?;
+                push_event_onto_list(&mut events, event)?;
                 places.push(after)?;
             }
             NextEventStatus::End => return Ok(Some(events)),
@@ -69,7 +72,7 @@ fn read_events(
     Ok(Some(events))
 }
 
-fn append_event(events: &mut Vec<Event>, event: Event) -> Result<(), AllocError>
+fn push_event_onto_list(events: &mut Vec<Event>, event: Event) -> Result<(), AllocError>
     ensures { OnOk result (events.new.items ≡ events.old.items ++ event ∷ []) }
 {
     events.push(event)?;

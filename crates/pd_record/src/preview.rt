@@ -4,11 +4,11 @@ ghost use Rattle.pd_host.specs.Calls.{called};
 ghost use Rattle.pd_host.specs.Expiries.{advanced};
 ghost use Rattle.pd_host.specs.InputResults.{Answers};
 ghost use Rattle.pd_host.specs.Host.{IsShort, then_on};
-ghost use Rattle.pd_record.specs.Recorder.{answered, next_packet};
+ghost use Rattle.pd_record.specs.Recorder.{answered, oldest_unmatched_or_next_expiry_packet};
 ghost use Rattle.pd_record.specs.Inner.{Finds};
 
 use crate::record_error::RecordError;
-use pd_host::{Halt, Host, HostEnd, law_growth};
+use pd_host::{Halt, Host, HostEnd, law_queued_octets_per_input_bounded};
 use pd_run::Verdict;
 use pd_script::Call;
 use pd_seg::{Answer, Sent};
@@ -18,10 +18,13 @@ use std::alloc::AllocError;
 ///
 /// # Errors
 /// `AllocError` where a growth is refused.
-pub fn next_packet(host: &Host, due: Option<u64>) -> Result<Option<Sent>, AllocError>
+pub fn oldest_unmatched_or_next_expiry_packet(
+    host: &Host,
+    due: Option<u64>,
+) -> Result<Option<Sent>, AllocError>
     requires live { host.now.end_reason ≡ None }
     requires early { IfSome due (λ at. at < 2 ^ 62) }
-    ensures { IfOk result (λ sent. sent ≡ next_packet host.now.state due) }
+    ensures { IfOk result (λ sent. sent ≡ oldest_unmatched_or_next_expiry_packet host.now.state due) }
 {
     if let Some(sent) = host.outbox().get(0) {
         return Ok(Some(sent.copy()?));
@@ -64,7 +67,7 @@ fn advance_and_call(host: &mut Host, call: &Call, at: u64) -> Result<Answer, Hos
     requires short { IsShort host.old.state }
     ensures { Answers host.old (λ s. then_on (called call.now at) (advanced at s)) result host.new }
 {
-    law_growth();
+    law_queued_octets_per_input_bounded();
     host.advance(at)?;
     host.call(call, at)
 }

@@ -50,12 +50,12 @@ pub fn record_script(
     let mut recorder = Recorder::new(alloc, header, settings, with_trace)?;
     let per_event = record_events(alloc, &mut recorder, events)?;
     let now = recorder.clock();
-    let rest = recorder.record_departures(alloc, 0, now)?;
+    let rest = recorder.record_unmet_departures_until(alloc, 0, now)?;
     Ok(RecordedScript {
         per_event,
         rest,
         count: recorder.count(),
-        senders: recorder.into_sender_snapshots(),
+        senders: recorder.into_sender_snapshots_if_traced(),
     })
 }
 
@@ -73,13 +73,13 @@ fn record_events(
 {
     let mut per_event = Vec::new(alloc);
     for event in events {
-        let event_recording = recorder.record(alloc, event)?;
-        append_event_recording(&mut per_event, event_recording)?;
+        let event_recording = recorder.record_script_event(alloc, event)?;
+        append_recording_to_list(&mut per_event, event_recording)?;
     }
     Ok(per_event)
 }
 
-fn append_event_recording(
+fn append_recording_to_list(
     list: &mut Vec<EventRecording>,
     event_recording: EventRecording,
 ) -> Result<(), AllocError>
@@ -98,14 +98,17 @@ pub fn events_of(alloc: Global, recorded_script: RecordedScript) -> Result<Vec<E
 {
     let mut events = Vec::new(alloc);
     for event_recording in recorded_script.per_event {
-        push_recorded_events(&mut events, event_recording.before)?;
-        push_own_event(&mut events, event_recording.own)?;
+        push_each_recorded_event(&mut events, event_recording.before)?;
+        push_own_event_if_any(&mut events, event_recording.own)?;
     }
-    push_recorded_events(&mut events, recorded_script.rest)?;
+    push_each_recorded_event(&mut events, recorded_script.rest)?;
     Ok(events)
 }
 
-fn push_recorded_events(events: &mut Vec<Event>, list: Vec<RecordedEvent>) -> Result<(), AllocError>
+fn push_each_recorded_event(
+    events: &mut Vec<Event>,
+    list: Vec<RecordedEvent>,
+) -> Result<(), AllocError>
     ensures { OnOk result (events.new.items ≡ events.old.items ++ events_in list.items) }
 {
     for recorded in list {
@@ -114,7 +117,7 @@ fn push_recorded_events(events: &mut Vec<Event>, list: Vec<RecordedEvent>) -> Re
     Ok(())
 }
 
-fn push_own_event(events: &mut Vec<Event>, own: Option<OwnEvent>) -> Result<(), AllocError>
+fn push_own_event_if_any(events: &mut Vec<Event>, own: Option<OwnEvent>) -> Result<(), AllocError>
     ensures { OnOk result (events.new.items ≡ events.old.items ++ event_in own) }
 {
     match own {

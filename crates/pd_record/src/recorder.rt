@@ -3,19 +3,20 @@ ghost use Rattle.std.specs.Prelude.{◌≡◌, ◌≤◌, ◌<◌, ◌+◌, ◌*
 ghost use Rattle.std.specs.List.{list_any};
 ghost use Rattle.pd_run.specs.Limits.{is_long, written_times};
 ghost use Rattle.pd_run.specs.Step.{tolerance_of};
-ghost use Rattle.pd_run.specs.Times.{time_of, time_range_of, may_be_in_time};
-ghost use Rattle.pd_record.specs.Recorder.{action_time, answer_at, arrives, recorder_at_start, calls, departs, event_at, expects, inputs, leaves_next, left_by, recorded, refusal_at, precheck_at, stepped, happened, with_base, with_unmet};
+ghost use Rattle.pd_run.specs.Times.{single_moment_or_base, time_range_of, is_not_too_late_within_tolerance};
+ghost use Rattle.pd_record.specs.Recorder.{action_time_not_before_clock, answer_at, arrives, recorder_at_start, calls, departs, event_at, expects, inputs, leaves_next, left_by, recorded, refusal_if_over_event_or_gap_limit, precheck_at, stepped, happened, with_base, with_unmet};
 ghost use Rattle.pd_record.specs.Inner.{Finds, Gives, Goes, IsReached, Sound};
 
-use crate::preview::{answer_to_call, next_packet};
+use crate::preview::{answer_to_call, oldest_unmatched_or_next_expiry_packet};
 use crate::record_error::RecordError;
 use crate::recorded::{EventRecording, OwnEvent, RecordedAnswer, RecordedEvent, TraceSnapshot};
-use crate::results::expected_result_of;
+use crate::results::expected_result_from_answer;
 use pd_match::check_call;
-use pd_print::sent_packet;
+use pd_print::script_packet_of_segment;
 use pd_run::{
-    Plain, RunState, StepEnd, Stepper, Verdict, base_after, failed_precheck, law_runs_are_bounded,
-    may_be_in_time, time_of, time_range_of,
+    Plain, RunState, StepEnd, Stepper, Verdict, base_after_expected_packet, failed_precheck,
+    is_not_too_late_within_tolerance, law_runs_stay_in_step_bounds, single_moment_or_base,
+    time_range_of,
 };
 use pd_script::{Action, Call, Event, Header, MAX_EVENTS, Packet, Time};
 use pd_seg::{Answer, Sent};
@@ -68,7 +69,7 @@ impl Recorder {
         ensures sound { IfOk result (λ recorder. Sound recorder) }
         ensures base { IfOk result (λ recorder. recorder.base ≡ 0) }
     {
-        law_runs_are_bounded();
+        law_runs_stay_in_step_bounds();
         let run = match RunState::new(alloc, header, settings) {
             Ok(run) => run,
             Err(verdict) => return Err(RecordError::Stopped(verdict)),
@@ -91,7 +92,7 @@ impl Recorder {
     }
 
     /// How the sender stood after each recorded event, in order; nothing where no trace was asked for.
-    pub fn into_sender_snapshots(self) -> Option<Vec<TraceSnapshot>> {
+    pub fn into_sender_snapshots_if_traced(self) -> Option<Vec<TraceSnapshot>> {
         let Recorder { senders, .. } = self;
         senders
     }
@@ -124,20 +125,24 @@ impl Recorder {
     ///
     /// # Errors
     /// `Stopped` where a run stops at the event, whatever it expects; `TooManyEvents`, `TooLongGap` and `OutOfMemory`.
-    pub fn record(&mut self, alloc: Global, event: &Event) -> Result<EventRecording, RecordError>
+    pub fn record_script_event(
+        &mut self,
+        alloc: Global,
+        event: &Event,
+    ) -> Result<EventRecording, RecordError>
         requires sound { Sound self.old }
         requires early { self.old.base < 2 ^ 60 }
         ensures event_recording { Gives (λ event_recording. event_recording) (recorded self.old event.now) result self.new }
         ensures sound { OnOk result (Sound self.new) }
         ensures base { OnOk result (self.new.base ≤ max (self.old.base + 3600000000) (3600000000 * 4097)) }
     {
-        if let Some(refusal) = self.precheck(event) {
+        if let Some(refusal) = self.refusal_of_failed_precheck(event) {
             return Err(refusal);
         }
         match &event.action {
-            Action::Outbound(_) => self.match_expected_packet(alloc, event),
-            Action::Inbound(packet) => self.record_arrival(alloc, event, packet),
-            Action::Call(call) => self.record_call_event(alloc, event, call),
+            Action::Outbound(_) => self.use_up_unmet_departure_or_record_next(alloc, event),
+            Action::Inbound(packet) => self.record_departures_then_arrival(alloc, event, packet),
+            Action::Call(call) => self.record_departures_then_call(alloc, event, call),
             Action::Command | Action::Code => {
                 Err(RecordError::Stopped(Verdict::Unsupported(event.line)))
             }
@@ -145,7 +150,7 @@ impl Recorder {
     }
 
     /// The checks of a step before anything happens: limits, shapes that aren't run, and times that go backwards.
-    fn precheck(&self, event: &Event) -> Option<RecordError>
+    fn refusal_of_failed_precheck(&self, event: &Event) -> Option<RecordError>
         ensures { result ≡ precheck_at self.now event.now }
     {
         let bar = failed_precheck(self.base, event)?;
@@ -153,16 +158,16 @@ impl Recorder {
     }
 
     /// The moment at which an input acts.
-    fn action_time(&self, event: &Event) -> u64
+    fn action_time_not_before_clock(&self, event: &Event) -> u64
         requires early { self.now.base < 2 ^ 60 }
         requires short { list_any is_long (written_times event.now.time) ≡ false }
-        ensures { result ≡ action_time self.now event.now }
+        ensures { result ≡ action_time_not_before_clock self.now event.now }
     {
-        time_of(self.base, event.time).max(self.run.clock())
+        single_moment_or_base(self.base, event.time).max(self.run.clock())
     }
 
     /// A packet arrives.
-    fn record_arrival(
+    fn record_departures_then_arrival(
         &mut self,
         alloc: Global,
         event: &Event,
@@ -171,14 +176,18 @@ impl Recorder {
         requires sound { Sound self.old }
         requires early { self.old.base < 2 ^ 60 }
         requires short { list_any is_long (written_times event.now.time) ≡ false }
-        ensures event_recording { Gives (λ event_recording. event_recording) (inputs (arrives event.now.line (action_time self.old event.now) packet.now) self.old event.now) result self.new }
+        ensures event_recording { Gives (λ event_recording. event_recording) (inputs (arrives event.now.line (action_time_not_before_clock self.old event.now) packet.now) self.old event.now) result self.new }
         ensures sound { OnOk result (Sound self.new) }
-        ensures base { OnOk result (self.new.base ≡ time_of self.old.base event.now.time) }
+        ensures base { OnOk result (self.new.base ≡ single_moment_or_base self.old.base event.now.time) }
     {
-        let at = self.action_time(event);
-        let before = self.record_departures(alloc, event.line, at)?;
-        let recorded = self.record_event(event.line, at, Action::Inbound(packet.copy()?))?;
-        self.base = time_of(self.base, event.time);
+        let at = self.action_time_not_before_clock(event);
+        let before = self.record_unmet_departures_until(alloc, event.line, at)?;
+        let recorded = self.step_and_record_action(
+            event.line,
+            at,
+            Action::Inbound(packet.copy()?),
+        )?;
+        self.base = single_moment_or_base(self.base, event.time);
         Ok(EventRecording {
             before,
             own: Some(OwnEvent {
@@ -189,7 +198,7 @@ impl Recorder {
     }
 
     /// A call is made.
-    fn record_call_event(
+    fn record_departures_then_call(
         &mut self,
         alloc: Global,
         event: &Event,
@@ -198,14 +207,14 @@ impl Recorder {
         requires sound { Sound self.old }
         requires early { self.old.base < 2 ^ 60 }
         requires short { list_any is_long (written_times event.now.time) ≡ false }
-        ensures event_recording { Gives (λ event_recording. event_recording) (inputs (calls event.now.line (action_time self.old event.now) call.now) self.old event.now) result self.new }
+        ensures event_recording { Gives (λ event_recording. event_recording) (inputs (calls event.now.line (action_time_not_before_clock self.old event.now) call.now) self.old event.now) result self.new }
         ensures sound { OnOk result (Sound self.new) }
-        ensures base { OnOk result (self.new.base ≡ time_of self.old.base event.now.time) }
+        ensures base { OnOk result (self.new.base ≡ single_moment_or_base self.old.base event.now.time) }
     {
-        let at = self.action_time(event);
-        let before = self.record_departures(alloc, event.line, at)?;
+        let at = self.action_time_not_before_clock(event);
+        let before = self.record_unmet_departures_until(alloc, event.line, at)?;
         let own = self.make_and_record_call(event.line, at, call)?;
-        self.base = time_of(self.base, event.time);
+        self.base = single_moment_or_base(self.base, event.time);
         Ok(EventRecording {
             before,
             own: Some(own),
@@ -216,7 +225,7 @@ impl Recorder {
     ///
     /// # Errors
     /// `Stopped`, `TooManyEvents`, `TooLongGap` and `OutOfMemory`.
-    pub fn record_departures(
+    pub fn record_unmet_departures_until(
         &mut self,
         alloc: Global,
         line: usize,
@@ -230,18 +239,18 @@ impl Recorder {
     {
         let mut before = Vec::new(alloc);
         'packets: for _ in 0..MAX_EVENTS {
-            let Some(sent) = self.next_packet_until(until)? else {
+            let Some(sent) = self.preview_next_packet_until(until)? else {
                 return Ok(before);
             };
             let recorded = self.record_sent_packet(alloc, line, &sent)?;
             append_recorded_event(&mut before, recorded)?;
-            self.add_unmet_packet(sent.at)?;
+            self.push_unmet_departure_time(sent.at)?;
         }
         Err(RecordError::TooManyEvents)
     }
 
     /// The packet that leaves next, if it is unmatched, or an expiry up to a moment sends it.
-    fn next_packet_until(&self, until: u64) -> Result<Option<Sent>, AllocError>
+    fn preview_next_packet_until(&self, until: u64) -> Result<Option<Sent>, AllocError>
         requires sound { Sound self.now }
         ensures { IfOk result (λ sent. sent ≡ leaves_next (λ due. nat_le due until) self.now.run) }
     {
@@ -249,26 +258,27 @@ impl Recorder {
             Some(due) if due <= until => Some(due),
             _ => None,
         };
-        next_packet(self.run.host(), due)
+        oldest_unmatched_or_next_expiry_packet(self.run.host(), due)
     }
 
     /// The packet that leaves next, if it is unmatched, or an expiry that may come in time for an expected one sends it.
-    fn next_packet_in_time(&self, event: &Event) -> Result<Option<Sent>, AllocError>
+    fn next_packet_in_time_for_event(&self, event: &Event) -> Result<Option<Sent>, AllocError>
         requires sound { Sound self.now }
         requires early { self.now.base < 2 ^ 60 }
         requires short { list_any is_long (written_times event.now.time) ≡ false }
-        ensures { IfOk result (λ sent. sent ≡ leaves_next (may_be_in_time (time_range_of self.now.base event.now.time) (tolerance_of self.now.run)) self.now.run) }
+        ensures { IfOk result (λ sent. sent ≡ leaves_next (is_not_too_late_within_tolerance (time_range_of self.now.base event.now.time) (tolerance_of self.now.run)) self.now.run) }
     {
         let time_range = time_range_of(self.base, event.time);
         let due = match self.run.host().deadline() {
-            Some(due) if may_be_in_time(time_range, self.run.tolerance(), due) => Some(due),
+            Some(due) if is_not_too_late_within_tolerance(time_range, self.run.tolerance(), due) =>
+                Some(due),
             _ => None,
         };
-        next_packet(self.run.host(), due)
+        oldest_unmatched_or_next_expiry_packet(self.run.host(), due)
     }
 
     /// A packet was recorded that no expected packet has met.
-    fn add_unmet_packet(&mut self, at: u64) -> Result<(), AllocError>
+    fn push_unmet_departure_time(&mut self, at: u64) -> Result<(), AllocError>
         ensures { OnOk result (self.new ≡ with_unmet self.old at) }
     {
         self.unmet.push_back(at)?;
@@ -288,10 +298,10 @@ impl Recorder {
         ensures sound { OnOk result (Sound self.new) }
         ensures base { OnOk result (self.new.base ≡ self.old.base) }
     {
-        let answer = self.answer_at(line, at, call)?;
+        let answer = self.preview_answer_within_count_and_gap(line, at, call)?;
         let mut answered = call.copy()?;
-        answered.result = expected_result_of(answer);
-        let recorded = self.record_event(line, at, Action::Call(answered))?;
+        answered.result = expected_result_from_answer(answer);
+        let recorded = self.step_and_record_action(line, at, Action::Call(answered))?;
         Ok(OwnEvent {
             recorded,
             recorded_answer: Some(RecordedAnswer {
@@ -302,19 +312,24 @@ impl Recorder {
     }
 
     /// The sender's answer to a call at a moment.
-    fn answer_at(&self, line: usize, at: u64, call: &Call) -> Result<Answer, RecordError>
+    fn preview_answer_within_count_and_gap(
+        &self,
+        line: usize,
+        at: u64,
+        call: &Call,
+    ) -> Result<Answer, RecordError>
         requires sound { Sound self.now }
         requires early { at < 2 ^ 61 }
         ensures { Finds (answer_at self.now line at call.now) result }
     {
-        match self.refusal_at(at) {
+        match self.refusal_if_over_event_or_gap_limit(at) {
             Some(refusal) => Err(refusal),
             None => answer_to_call(self.run.host(), line, at, call),
         }
     }
 
     /// An expected packet meets the oldest that none met before: one that was recorded, else the one that leaves next.
-    fn match_expected_packet(
+    fn use_up_unmet_departure_or_record_next(
         &mut self,
         alloc: Global,
         event: &Event,
@@ -327,15 +342,15 @@ impl Recorder {
         ensures base { OnOk result (self.new.base ≤ max (self.old.base + 3600000000) (3600000000 * 4097)) }
     {
         if let Some(at) = self.unmet.pop_front() {
-            self.base = base_after(self.base, event.time, at);
+            self.base = base_after_expected_packet(self.base, event.time, at);
             return Ok(empty_event_recording(alloc));
         }
-        let Some(sent) = self.next_packet_in_time(event)? else {
-            self.base = base_after(self.base, event.time, self.base);
+        let Some(sent) = self.next_packet_in_time_for_event(event)? else {
+            self.base = base_after_expected_packet(self.base, event.time, self.base);
             return Ok(empty_event_recording(alloc));
         };
         let recorded = self.record_sent_packet(alloc, event.line, &sent)?;
-        self.base = base_after(self.base, event.time, sent.at);
+        self.base = base_after_expected_packet(self.base, event.time, sent.at);
         Ok(EventRecording {
             before: Vec::new(alloc),
             own: Some(OwnEvent {
@@ -359,12 +374,12 @@ impl Recorder {
         ensures same { OnOk result (self.new.unmet ≡ self.old.unmet) }
         ensures base { OnOk result (self.new.base ≡ self.old.base) }
     {
-        let packet = sent_packet(alloc, &sent.segment)?;
-        self.record_event(line, sent.at, Action::Outbound(packet))
+        let packet = script_packet_of_segment(alloc, &sent.segment)?;
+        self.step_and_record_action(line, sent.at, Action::Outbound(packet))
     }
 
     /// Records what happens at a moment, and takes its step.
-    fn record_event(
+    fn step_and_record_action(
         &mut self,
         line: usize,
         at: u64,
@@ -377,17 +392,17 @@ impl Recorder {
         ensures same { OnOk result (self.new.unmet ≡ self.old.unmet) }
         ensures base { OnOk result (self.new.base ≡ self.old.base) }
     {
-        if let Some(refusal) = self.refusal_at(at) {
+        if let Some(refusal) = self.refusal_if_over_event_or_gap_limit(at) {
             return Err(refusal);
         }
-        let event = self.event_at(line, at, action);
+        let event = self.event_with_relative_time(line, at, action);
         self.step(&event)?;
-        self.note_sender_snapshot()?;
+        self.note_sender_snapshot_if_traced()?;
         Ok(RecordedEvent { event, at })
     }
 
     /// Notes the sender's state, where a trace has it.
-    fn note_sender_snapshot(&mut self) -> Result<(), AllocError>
+    fn note_sender_snapshot_if_traced(&mut self) -> Result<(), AllocError>
         ensures { self.new ≡ self.old }
     {
         if let Some(senders) = &mut self.senders {
@@ -405,7 +420,7 @@ impl Recorder {
         ensures same { OnOk result (self.new.unmet ≡ self.old.unmet) }
         ensures base { OnOk result (self.new.base ≡ self.old.base) }
     {
-        law_runs_are_bounded();
+        law_runs_stay_in_step_bounds();
         match Plain::new().step(&mut self.run, event, &self.settings)? {
             StepEnd::Go => {}
             StepEnd::Stop(verdict) => return Err(RecordError::Stopped(verdict)),
@@ -415,8 +430,8 @@ impl Recorder {
     }
 
     /// Why nothing is recorded at a moment, if there is a reason.
-    fn refusal_at(&self, at: u64) -> Option<RecordError>
-        ensures { result ≡ refusal_at self.now at }
+    fn refusal_if_over_event_or_gap_limit(&self, at: u64) -> Option<RecordError>
+        ensures { result ≡ refusal_if_over_event_or_gap_limit self.now at }
     {
         if self.count >= MAX_EVENTS {
             Some(RecordError::TooManyEvents)
@@ -428,7 +443,7 @@ impl Recorder {
     }
 
     /// An event of the recording, which stops at a line of the script.
-    fn event_at(&self, line: usize, at: u64, action: Action) -> Event
+    fn event_with_relative_time(&self, line: usize, at: u64, action: Action) -> Event
         ensures { result ≡ event_at self.now line at action }
     {
         Event {

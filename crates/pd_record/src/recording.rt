@@ -10,14 +10,14 @@ ghost use Rattle.pd_record.specs.PlacedScripts.{IsRead};
 ghost use Rattle.pd_record.specs.declared.record_error.RecordError.TheVariants.{OutOfMemory};
 
 use crate::compose::compose_recording;
-use crate::placed_script::{Script, read_script};
+use crate::placed_script::{Script, read_placed_script_if_valid};
 use crate::record_error::RecordError;
 use crate::recorded_script::{RecordedScript, events_of, record_script};
 use crate::recording_text::Recording;
-use crate::unchanged::is_own_recording;
-use pd_host::{law_advances, law_sending_one_by_one};
-use pd_layout::is_canonical_script;
-use pd_run::{law_runs_are_bounded, law_verdicts_have_reasons, run_all};
+use crate::unchanged::is_own_recording_without_trace;
+use pd_host::{law_each_send_appends_one_packet, law_expiries_append_in_order_without_settings};
+use pd_layout::is_canonical_text_of_header_and_events;
+use pd_run::{law_runs_stay_in_step_bounds, law_verdicts_have_reasons, run_all};
 use pd_settings::Settings;
 use pd_text::Lines;
 use std::alloc::Global;
@@ -30,7 +30,7 @@ use std::alloc::Global;
 /// expects; `TooManyEvents`, `TooLongGap` and `TooLarge` where the recording would be over these limits; `OutOfMemory`; and
 /// `Differs` where the text isn't read as what was recorded or isn't laid out as recordings are, which is a fault of this
 /// program.
-pub fn record(
+pub fn record_script_text(
     alloc: Global,
     lines: &Lines,
     settings: &Settings,
@@ -45,11 +45,11 @@ pub fn record(
     ensures spared { IsSettled lines.now settings.now → with_trace ≡ false → IfErr result (λ refusal. refusal ≡ OutOfMemory) }
     ensures refused { IfErr result (Refuses (recording_of lines.now settings.now)) }
 {
-    law_runs_are_bounded();
-    law_advances();
-    law_sending_one_by_one();
+    law_runs_stay_in_step_bounds();
+    law_expiries_append_in_order_without_settings();
+    law_each_send_appends_one_packet();
     law_verdicts_have_reasons();
-    let Some(script) = read_script(alloc, lines)? else {
+    let Some(script) = read_placed_script_if_valid(alloc, lines)? else {
         let verdict = run_all(alloc, lines, settings)?;
         return Err(RecordError::Stopped(verdict));
     };
@@ -61,15 +61,15 @@ pub fn record(
         with_trace,
     )?;
     // A text that is its own recording keeps its lines.
-    if is_own_recording(alloc, lines, &script, &recorded_script, with_trace)? {
-        unchanged_recording(alloc, lines, &script, &recorded_script)
+    if is_own_recording_without_trace(alloc, lines, &script, &recorded_script, with_trace)? {
+        copy_lines_as_recording(alloc, lines, &script, &recorded_script)
     } else {
         compose_and_reread(alloc, lines, &script, recorded_script)
     }
 }
 
 /// The recording that is its text itself.
-fn unchanged_recording(
+fn copy_lines_as_recording(
     alloc: Global,
     lines: &Lines,
     script: &Script,
@@ -97,10 +97,15 @@ fn compose_and_reread(
     ensures written { IfOk result (IsWritten script.now.header.items (events_of recorded_script)) }
     ensures refused { IfErr result (Refuses (Ok recorded_script)) }
 {
-    let recording = compose_lines(alloc, lines, script, &recorded_script)?;
+    let recording = compose_recording_narrowing_errors(alloc, lines, script, &recorded_script)?;
     let events = events_of(alloc, recorded_script)?;
     if recording.events == events.len()
-        && is_canonical_script(alloc, &recording.lines, &script.header, events.as_slice())?
+        && is_canonical_text_of_header_and_events(
+            alloc,
+            &recording.lines,
+            &script.header,
+            events.as_slice(),
+        )?
     {
         Ok(recording)
     } else {
@@ -109,7 +114,7 @@ fn compose_and_reread(
 }
 
 /// The recording, in lines.
-fn compose_lines(
+fn compose_recording_narrowing_errors(
     alloc: Global,
     lines: &Lines,
     script: &Script,

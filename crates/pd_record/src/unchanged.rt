@@ -10,7 +10,7 @@ ghost use Rattle.pd_record.specs.PlacedScripts.{IsRead};
 use crate::placed_script::Script;
 use crate::recorded::{EventRecording, OwnEvent, RecordedEvent};
 use crate::recorded_script::RecordedScript;
-use pd_layout::{is_canonical, is_same_event};
+use pd_layout::{is_canonical, is_same_event_but_for_line};
 use pd_script::Event;
 use pd_text::Lines;
 use std::alloc::{AllocError, Global};
@@ -19,7 +19,7 @@ use std::alloc::{AllocError, Global};
 ///
 /// # Errors
 /// `AllocError` where a growth is refused.
-pub fn is_own_recording(
+pub fn is_own_recording_without_trace(
     alloc: Global,
     lines: &Lines,
     script: &Script,
@@ -30,7 +30,7 @@ pub fn is_own_recording(
     ensures { IfOk result (λ kept. IsTrue kept ↔ (with_trace ≡ false) × AreSameEvents script.now.events.items (events_of recorded_script.now) × IsCanonical lines.now) }
 {
     let events = script.events.as_slice();
-    if !with_trace && are_as_recorded(events, recorded_script) {
+    if !with_trace && are_events_as_recorded(events, recorded_script) {
         is_canonical(alloc, lines, script.header.as_slice(), events)
     } else {
         Ok(false)
@@ -38,50 +38,56 @@ pub fn is_own_recording(
 }
 
 /// Whether just these events were recorded, but for their lines.
-fn are_as_recorded(events: &[Event], recorded_script: &RecordedScript) -> bool
+fn are_events_as_recorded(events: &[Event], recorded_script: &RecordedScript) -> bool
     ensures { IsTrue result ↔ AreSameEvents events.now (events_of recorded_script.now) }
 {
     let mut left = events;
     for event_recording in recorded_script.per_event.as_slice() {
-        match strip_event_recording(left, event_recording) {
+        match strip_event_recording_prefix(left, event_recording) {
             Some(after) => left = after,
             None => return false,
         }
     }
-    match strip_recorded_events(left, recorded_script.rest.as_slice()) {
+    match strip_recorded_events_prefix(left, recorded_script.rest.as_slice()) {
         Some(after) => after.is_empty(),
         None => false,
     }
 }
 
 /// The events after those that were recorded of one event of a script; nothing where they don't begin with these.
-fn strip_event_recording<'a>(
+fn strip_event_recording_prefix<'a>(
     events: &'a [Event],
     event_recording: &EventRecording,
 ) -> Option<&'a [Event]>
     ensures { GoesAfter events.now (events_recorded event_recording.now) result }
 {
-    let after = strip_recorded_events(events, event_recording.before.as_slice())?;
-    strip_own_event(after, &event_recording.own)
+    let after = strip_recorded_events_prefix(events, event_recording.before.as_slice())?;
+    strip_own_event_prefix_if_any(after, &event_recording.own)
 }
 
 /// The events after what is in the place of an event.
-fn strip_own_event<'a>(events: &'a [Event], own: &Option<OwnEvent>) -> Option<&'a [Event]>
+fn strip_own_event_prefix_if_any<'a>(
+    events: &'a [Event],
+    own: &Option<OwnEvent>,
+) -> Option<&'a [Event]>
     ensures { GoesAfter events.now (event_in own.now) result }
 {
     match own {
-        Some(own) => strip_event(events, &own.recorded.event),
+        Some(own) => strip_event_prefix(events, &own.recorded.event),
         None => Some(events),
     }
 }
 
 /// The events after some that were recorded.
-fn strip_recorded_events<'a>(events: &'a [Event], list: &[RecordedEvent]) -> Option<&'a [Event]>
+fn strip_recorded_events_prefix<'a>(
+    events: &'a [Event],
+    list: &[RecordedEvent],
+) -> Option<&'a [Event]>
     ensures { GoesAfter events.now (events_in list.now) result }
 {
     let mut left = events;
     for recorded in list {
-        match strip_event(left, &recorded.event) {
+        match strip_event_prefix(left, &recorded.event) {
             Some(after) => left = after,
             None => return None,
         }
@@ -90,11 +96,11 @@ fn strip_recorded_events<'a>(events: &'a [Event], list: &[RecordedEvent]) -> Opt
 }
 
 /// The events after one.
-fn strip_event<'a>(events: &'a [Event], event: &Event) -> Option<&'a [Event]>
+fn strip_event_prefix<'a>(events: &'a [Event], event: &Event) -> Option<&'a [Event]>
     ensures { GoesAfter events.now (event.now ∷ []) result }
 {
     match events {
-        [first, others @ ..] => if is_same_event(first, event) {
+        [first, others @ ..] => if is_same_event_but_for_line(first, event) {
             Some(others)
         } else {
             None

@@ -2,7 +2,7 @@
 use crate::record_error::RecordError;
 use crate::recorded::{OwnEvent, RecordedAnswer, RecordedEvent, TraceSnapshot};
 use crate::recording_text::{Recording, TraceEntry, TraceOrigin};
-use pd_layout::{Layout, TextSpan, TriviaPart, is_trace, put_text_span};
+use pd_layout::{Layout, TextSpan, TriviaPart, is_single_trace_line, put_text_span};
 use pd_print::{Direction, put_answer, put_event, put_time};
 use pd_script::{Action, Time};
 use pd_text::{LineList, Lines, MAX_OCTETS};
@@ -47,12 +47,15 @@ impl<'a> Writer<'a> {
     ///
     /// # Errors
     /// `TooLarge` and `OutOfMemory`.
-    pub fn put_comments(&mut self, pieces: &[TriviaPart]) -> Result<(), RecordError> {
+    pub fn put_comment_and_blank_lines(
+        &mut self,
+        pieces: &[TriviaPart],
+    ) -> Result<(), RecordError> {
         for piece in pieces {
             if let TriviaPart::Comment(text_span) = piece {
-                self.put_comment(*text_span)?;
+                self.put_comment_indented_if_like_trace(*text_span)?;
             }
-            self.end_line()?;
+            self.end_line_checking_octet_limit()?;
         }
         Ok(())
     }
@@ -61,47 +64,54 @@ impl<'a> Writer<'a> {
     ///
     /// # Errors
     /// `TooLarge` and `OutOfMemory`.
-    pub fn put_header_item(&mut self, layout: &Layout) -> Result<(), RecordError> {
-        self.put_comments(&layout.leading)?;
+    pub fn put_header_item_with_comments(&mut self, layout: &Layout) -> Result<(), RecordError> {
+        self.put_comment_and_blank_lines(&layout.leading)?;
         put_text_span(&mut self.line, self.source, layout.parts.event)?;
-        self.put_trailing_comments(&layout.trailing)?;
-        self.end_line()
+        self.put_comments_at_line_end(&layout.trailing)?;
+        self.end_line_checking_octet_limit()
     }
 
     /// Writes the comments of an event that records nothing.
     ///
     /// # Errors
     /// `TooLarge` and `OutOfMemory`.
-    pub fn put_only_comments(&mut self, layout: &Layout) -> Result<(), RecordError> {
-        self.put_comments(&layout.leading)?;
-        self.put_comments(&layout.trailing)
+    pub fn put_comments_of_unrecorded_event(&mut self, layout: &Layout) -> Result<(), RecordError> {
+        self.put_comment_and_blank_lines(&layout.leading)?;
+        self.put_comment_and_blank_lines(&layout.trailing)
     }
 
     /// Writes what is recorded in the place of an event.
     ///
     /// # Errors
     /// `TooLarge` and `OutOfMemory`.
-    pub fn put_own_event(&mut self, layout: &Layout, own: &OwnEvent) -> Result<(), RecordError> {
-        self.put_comments(&layout.leading)?;
+    pub fn put_own_event_line_with_comments(
+        &mut self,
+        layout: &Layout,
+        own: &OwnEvent,
+    ) -> Result<(), RecordError> {
+        self.put_comment_and_blank_lines(&layout.leading)?;
         match own.recorded_answer {
-            None => self.put_packet_event(&own.recorded)?,
-            Some(recorded_answer) => self.put_call(
+            None => self.append_packet_event_to_line(&own.recorded)?,
+            Some(recorded_answer) => self.put_call_with_answer_and_fitting_note(
                 layout,
                 own.recorded.event.time,
                 recorded_answer,
             )?,
         }
-        self.put_trailing_comments(&layout.trailing)?;
-        self.end_line_with_trace(&own.recorded)
+        self.put_comments_at_line_end(&layout.trailing)?;
+        self.end_line_and_push_trace_entry(&own.recorded)
     }
 
     /// Writes a packet that left before an input.
     ///
     /// # Errors
     /// `TooLarge` and `OutOfMemory`.
-    pub fn put_packet_line(&mut self, recorded: &RecordedEvent) -> Result<(), RecordError> {
-        self.put_packet_event(recorded)?;
-        self.end_line_with_trace(recorded)
+    pub fn put_packet_line_with_trace_entry(
+        &mut self,
+        recorded: &RecordedEvent,
+    ) -> Result<(), RecordError> {
+        self.append_packet_event_to_line(recorded)?;
+        self.end_line_and_push_trace_entry(recorded)
     }
 
     /// The recording, which has so many events.
@@ -125,7 +135,7 @@ impl<'a> Writer<'a> {
     }
 
     /// Adds an event in which a packet arrives or leaves.
-    fn put_packet_event(&mut self, recorded: &RecordedEvent) -> Result<(), RecordError> {
+    fn append_packet_event_to_line(&mut self, recorded: &RecordedEvent) -> Result<(), RecordError> {
         let time = recorded.event.time;
         match &recorded.event.action {
             Action::Inbound(packet) => put_event(&mut self.line, time, Direction::Inbound, packet)?,
@@ -142,14 +152,14 @@ impl<'a> Writer<'a> {
 
     /// Adds a call: its time, its octets up to `=`, what the sender answers, and its note if that is the written result. If not,
     /// the comments of the note come before the call.
-    fn put_call(
+    fn put_call_with_answer_and_fitting_note(
         &mut self,
         layout: &Layout,
         time: Time,
         recorded_answer: RecordedAnswer,
     ) -> Result<(), RecordError> {
         if !recorded_answer.is_expected {
-            self.put_comments(&layout.in_note)?;
+            self.put_comment_and_blank_lines(&layout.in_note)?;
         }
         put_time(&mut self.line, time)?;
         self.line.extend_from_slice(b" ")?;
@@ -166,7 +176,7 @@ impl<'a> Writer<'a> {
     }
 
     /// Adds the comments that stay on the line of an event.
-    fn put_trailing_comments(&mut self, trailing: &[TriviaPart]) -> Result<(), RecordError> {
+    fn put_comments_at_line_end(&mut self, trailing: &[TriviaPart]) -> Result<(), RecordError> {
         for piece in trailing {
             if let TriviaPart::Comment(text_span) = piece {
                 self.line.extend_from_slice(b" ")?;
@@ -177,10 +187,13 @@ impl<'a> Writer<'a> {
     }
 
     /// Adds a comment that is alone; one that looks like a line of a trace keeps a blank before it.
-    fn put_comment(&mut self, text_span: TextSpan) -> Result<(), RecordError> {
+    fn put_comment_indented_if_like_trace(
+        &mut self,
+        text_span: TextSpan,
+    ) -> Result<(), RecordError> {
         let mut comment = Vec::new(self.alloc);
         put_text_span(&mut comment, self.source, text_span)?;
-        if is_trace(&comment) {
+        if is_single_trace_line(&comment) {
             self.line.extend_from_slice(b" ")?;
         }
         self.line.extend_from_slice(&comment)?;
@@ -188,15 +201,18 @@ impl<'a> Writer<'a> {
     }
 
     /// Ends the line of an event.
-    fn end_line_with_trace(&mut self, recorded: &RecordedEvent) -> Result<(), RecordError> {
+    fn end_line_and_push_trace_entry(
+        &mut self,
+        recorded: &RecordedEvent,
+    ) -> Result<(), RecordError> {
         let traced = self.list.len().saturating_add(self.trace_entries.len());
-        self.end_line()?;
-        self.push_trace_entry(recorded, traced)?;
+        self.end_line_checking_octet_limit()?;
+        self.push_trace_entry_if_traced(recorded, traced)?;
         Ok(())
     }
 
     /// Marks the event whose line was ended, where a trace has it; the trace has so many lines before it.
-    fn push_trace_entry(
+    fn push_trace_entry_if_traced(
         &mut self,
         recorded: &RecordedEvent,
         traced: usize,
@@ -204,7 +220,11 @@ impl<'a> Writer<'a> {
         let Some(sender) = self.senders.get(self.trace_entries.len()) else {
             return Ok(());
         };
-        let origin = self.track_packet_origin(&recorded.event.action, traced, sender.unmatched);
+        let origin = self.packet_origin_or_note_input(
+            &recorded.event.action,
+            traced,
+            sender.unmatched,
+        );
         self.trace_entries.push(TraceEntry {
             lines: self.list.len(),
             at: recorded.at,
@@ -216,7 +236,7 @@ impl<'a> Writer<'a> {
 
     /// The input or timer that let a packet go. Before an input acts all packets that left are recorded, so those that are
     /// unmatched after it are its own.
-    fn track_packet_origin(
+    fn packet_origin_or_note_input(
         &mut self,
         action: &Action,
         traced: usize,
@@ -237,10 +257,10 @@ impl<'a> Writer<'a> {
     }
 
     /// Ends a line.
-    fn end_line(&mut self) -> Result<(), RecordError> {
-        push_lines(&mut self.list, self.line.as_slice())?;
+    fn end_line_checking_octet_limit(&mut self) -> Result<(), RecordError> {
+        push_lines_split_at_newlines(&mut self.list, self.line.as_slice())?;
         self.line.clear();
-        if self.list.octet_count() > MAX_OCTETS {
+        if self.list.octet_count_without_newlines() > MAX_OCTETS {
             return Err(RecordError::TooLarge);
         }
         Ok(())
@@ -248,9 +268,9 @@ impl<'a> Writer<'a> {
 }
 
 /// Adds a line, or several that newlines part.
-fn push_lines(list: &mut LineList, octets: &[u8]) -> Result<(), AllocError> {
+fn push_lines_split_at_newlines(list: &mut LineList, octets: &[u8]) -> Result<(), AllocError> {
     for line in octets.split(|octet| *octet == b'\n') {
-        list.push_if_line(line)?;
+        list.push_unless_newline_inside(line)?;
     }
     Ok(())
 }

@@ -2,13 +2,13 @@
 use Rattle.std.proofs.Common.{◌≡◌, ℕ, ◌+◌, ◌-◌, ◌<◌, ◌≤◌, ◌&&◌, min, nat_lt, Option, Some, None, Bool, true, false, not, refl, subst, arith}
 use Rattle.std.specs.Prelude.{unwrap_or, option_map}
 use Rattle.std.proofs.lemmas.Bool.Decides.{nat_tests}
-use Rattle.pd_board.specs.Retransmit.{run_at, next_lost, next_hole, rescue, segment_to, most_from}
+use Rattle.pd_board.specs.Retransmit.{run_at, next_lost, find_unsacked_octet_by_nextseg_rule_3, rescue, segment_to, most_from}
 use Rattle.pd_board.specs.Loss.{is_unsacked}
 use Rattle.pd_board.specs.Octets.{contains, least_where, greatest_where, after}
 use Rattle.pd_board.specs.Board.{BoardView, IsBoardView}
 use Rattle.pd_recover.specs.declared.next_segment.NextSegment.{NextSegment}
 use Rattle.pd_recover.specs.declared.next_segment.NextSegment.TheVariants.{Lost, New, Hole, Rescue}
-use Rattle.pd_recover.specs.NextSeg.{IsSendable, segment_of, lost_run, new_segment_on_board, hole_run, rescue_run, next_send}
+use Rattle.pd_recover.specs.NextSeg.{IsSendable, segment_of, lost_run, new_segment_on_board_within_rwnd, hole_run, rescue_run, next_send}
 use Rattle.pd_recover.specs.Cong.{CongView}
 use Rattle.pd_recover.proofs.Chosen.{AllOf, one_of, either_of, map_of, allowed_of}
 use Rattle.pd_recover.proofs.Found.{least, greatest}
@@ -49,12 +49,12 @@ lost_sendable s known high x e =
     let h = least _ s.una s.top x e in
     run_sendable s known x h.from h.to (first_of_two _ _ (first_of_two _ _ h.passes))
 
-hole_sendable : (s : BoardView) → IsBoardView s → (high x : ℕ) → next_hole high s ≡ Some x → IsSendable s (run_at x s)
+hole_sendable : (s : BoardView) → IsBoardView s → (high x : ℕ) → find_unsacked_octet_by_nextseg_rule_3 high s ≡ Some x → IsSendable s (run_at x s)
 hole_sendable s known high x e =
     let h = least _ s.una s.top x e in
     run_sendable s known x h.from h.to (first_of_two _ _ h.passes)
 
-pub data_sendable : (rwnd : ℕ) (s : BoardView) → IsBoardView s → AllOf (IsSendable s) (new_segment_on_board rwnd s)
+pub data_sendable : (rwnd : ℕ) (s : BoardView) → IsBoardView s → AllOf (IsSendable s) (new_segment_on_board_within_rwnd rwnd s)
 data_sendable rwnd s known =
     allowed_of (IsSendable s) _ _ (λ t. one_of (IsSendable s) _ (record {
       from = omega (arith, known.una_next, known.next_top);
@@ -85,6 +85,6 @@ pub next_sendable : (rwnd : ℕ) (s : BoardView) (w : CongView) → IsBoardView 
 next_sendable rwnd s w known =
     let P : NextSegment → Type 0 = λ sent. IsSendable s (segment_of sent) in
     either_of P (lost_run s w) _ (map_of P (λ x. Lost (run_at x s)) (next_lost w.high_rxt s) (lost_sendable s known w.high_rxt))
-    (either_of P (option_map (λ segment. New segment) (new_segment_on_board rwnd s)) _ (map_of P (λ segment. New segment) (new_segment_on_board rwnd s) (data_sendable rwnd s known))
-    (either_of P (hole_run s w) (rescue_run s w) (map_of P (λ x. Hole (run_at x s)) (next_hole w.high_rxt s) (hole_sendable s known w.high_rxt))
+    (either_of P (option_map (λ segment. New segment) (new_segment_on_board_within_rwnd rwnd s)) _ (map_of P (λ segment. New segment) (new_segment_on_board_within_rwnd rwnd s) (data_sendable rwnd s known))
+    (either_of P (hole_run s w) (rescue_run s w) (map_of P (λ x. Hole (run_at x s)) (find_unsacked_octet_by_nextseg_rule_3 w.high_rxt s) (hole_sendable s known w.high_rxt))
     (allowed_of P _ _ (λ _. map_of P (λ segment. Rescue segment) (rescue s) (rescue_sendable s known)))))

@@ -5,8 +5,8 @@ use Rattle.pd_recover.specs.declared.ack.SackNews.{SackNews}
 use Rattle.pd_recover.specs.declared.ack_action.AckAction.{AckAction}
 use Rattle.pd_settings.specs.declared.initial_window.InitialWindow.{InitialWindow}
 use Rattle.pd_settings.specs.declared.initial_window.InitialWindow.TheVariants.{Rfc5681, Rfc6928}
-use Rattle.pd_recover.specs.Acks.{acked, renewed, acked_by, acked_with_sack, acked_without_sack, selective_duplicate, plain_duplicate, dup_ack_counted, grown_by, new_octets_acked, entered, recovery_ended, with_delivered, retransmitted, is_duplicate}
-use Rattle.pd_recover.specs.Cong.{CongView, is_prr_recovering, initial_window_by_rule, window_at_establishment, widened, cwnd_growth, restart_window, restarted, sndcnt, with_prr_cwnd}
+use Rattle.pd_recover.specs.Acks.{acked, renewed, acked_by, acked_with_sack, acked_without_sack, selective_duplicate, plain_duplicate, dup_ack_counted, grown_by, new_octets_acked, entered, recovery_ended, with_delivered, retransmitted, is_rfc5681_duplicate}
+use Rattle.pd_recover.specs.Cong.{CongView, is_prr_recovering, initial_window_by_rule, initial_cwnd_smss_if_syn_ack_resent, widened, cwnd_growth, restart_window, restarted, sndcnt, with_prr_cwnd}
 use Rattle.pd_recover.specs.Prr.{uses_prr}
 use Rattle.pd_recover.specs.Laws.{IsWithin, StaysWithin}
 use Rattle.pd_recover.proofs.Cases.{selective_cases, plain_cases}
@@ -50,7 +50,7 @@ in_range Rfc5681 smss small = first (nat_lt 2190 smss) (nat_lt 1095 smss)
     first false true = (omega arith, omega arith)
     first false false = (omega arith, omega arith)
 
-first_in_range : (rule : InitialWindow) (smss : ℕ) (syn_ack_resent : Bool) → smss ≤ 65495 → IsInRange smss (window_at_establishment rule smss syn_ack_resent)
+first_in_range : (rule : InitialWindow) (smss : ℕ) (syn_ack_resent : Bool) → smss ≤ 65495 → IsInRange smss (initial_cwnd_smss_if_syn_ack_resent rule smss syn_ack_resent)
 first_in_range rule smss true small = (omega arith, omega (arith, small))
 first_in_range rule smss false small = in_range rule smss small
 
@@ -159,7 +159,7 @@ module _ (initial : ℕ) (ack : Ack) (small : ack.smss ≤ 65495) (few : ack.top
   acked_without_sack-within : (w : CongView) → Within w → LeadsWithin (acked_without_sack ack w)
   acked_without_sack-within w h =
       chosen LeadsWithin (nat_lt 0 ack.acked) _ _ (λ _. new_octets_acked-within w h)
-      (λ _. chosen LeadsWithin (is_duplicate ack && nat_le w.recovery_point ack.una) _ _
+      (λ _. chosen LeadsWithin (is_rfc5681_duplicate ack && nat_le w.recovery_point ack.una) _ _
       (λ _. plain_duplicate-within (dup_ack_counted w) (same w _ refl refl refl refl h))
       (λ _. h))
 

@@ -100,8 +100,8 @@ acked_with_sack ack sack_news w =
 
 -- a duplicate acknowledges nothing new while octets are outstanding, its window is the one before, and no FIN comes with it
 -- (section 2)
-abbrev pub is_duplicate : Ack → Bool
-is_duplicate ack = ack.acked == 0 && (nat_lt ack.una ack.top && (ack.same_window && not ack.fin))
+abbrev pub is_rfc5681_duplicate : Ack → Bool
+is_rfc5681_duplicate ack = ack.acked == 0 && (nat_lt ack.una ack.top && (ack.same_window && not ack.fin))
 
 -- the window is deflated, and recovery ends (step 6)
 abbrev pub deflated : CongView → CongView
@@ -147,7 +147,7 @@ plain_duplicate ack w =
 abbrev pub acked_without_sack : Ack → CongView → CongView × AckAction
 acked_without_sack ack w =
     if nat_lt 0 ack.acked then (new_octets_acked ack w, Ordinary)
-    else if is_duplicate ack && nat_le w.recovery_point ack.una then plain_duplicate ack (dup_ack_counted w)
+    else if is_rfc5681_duplicate ack && nat_le w.recovery_point ack.una then plain_duplicate ack (dup_ack_counted w)
     else (w, Ordinary)
 
 -- an ACK by the octets that it reports

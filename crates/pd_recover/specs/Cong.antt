@@ -72,8 +72,8 @@ initial_window_by_rule Rfc6928 smss = min (10 * smss) (max (2 * smss) 14600)
 
 -- the same, or one segment where the SYN/ACK was sent again (RFC 5681, section 3.1; own under RFC 6928, whose section 2
 -- goes back to one segment only where it was sent again more than once)
-abbrev pub window_at_establishment : InitialWindow → ℕ → Bool → ℕ
-window_at_establishment rule smss syn_ack_resent = if syn_ack_resent then smss else initial_window_by_rule rule smss
+abbrev pub initial_cwnd_smss_if_syn_ack_resent : InitialWindow → ℕ → Bool → ℕ
+initial_cwnd_smss_if_syn_ack_resent rule smss syn_ack_resent = if syn_ack_resent then smss else initial_window_by_rule rule smss
 
 -- IW's rule where the setting is on
 abbrev pub idle_restart_rule : Bool → InitialWindow → Option InitialWindow
@@ -84,7 +84,7 @@ idle_restart_rule on rule = if on then Some rule else None
 -- counts
 abbrev pub begun : Settings → ℕ → Bool → CongView
 begun settings smss syn_ack_resent = record {
-  cwnd = window_at_establishment settings.initial_window smss syn_ack_resent;
+  cwnd = initial_cwnd_smss_if_syn_ack_resent settings.initial_window smss syn_ack_resent;
   ssthresh = settings.initial_ssthresh;
   dup_acks = 0;
   limited_transmit = settings.limited_transmit;

@@ -1,6 +1,6 @@
 //! The congestion window and what loss recovery keeps.
 ghost use Rattle.std.specs.Prelude.{◌≡◌, ◌-◌, ◌<◌, ◌≤◌, ◌^◌};
-ghost use Rattle.pd_recover.specs.Cong.{IsCongView, rfc5681_initial_segments, initial_window_by_rule, window_at_establishment, idle_restart_rule, begun, begun_settings, timed_out, restarted, entered_to, with_limited, is_prr_recovering, with_prr_out, sndcnt, with_prr_cwnd};
+ghost use Rattle.pd_recover.specs.Cong.{IsCongView, rfc5681_initial_segments, initial_window_by_rule, initial_cwnd_smss_if_syn_ack_resent, idle_restart_rule, begun, begun_settings, timed_out, restarted, entered_to, with_limited, is_prr_recovering, with_prr_out, sndcnt, with_prr_cwnd};
 ghost use Rattle.pd_recover.specs.Prr.{uses_prr, unforced_sndcnt};
 
 mod next_seg;
@@ -104,8 +104,8 @@ fn initial_window_by_rule(rule: InitialWindow, smss: u16) -> u32
 }
 
 /// The same, or one segment where the SYN/ACK was sent again.
-fn window_at_establishment(rule: InitialWindow, smss: u16, syn_ack_resent: bool) -> u32
-    ensures { result ≡ window_at_establishment rule smss syn_ack_resent }
+fn initial_cwnd_smss_if_syn_ack_resent(rule: InitialWindow, smss: u16, syn_ack_resent: bool) -> u32
+    ensures { result ≡ initial_cwnd_smss_if_syn_ack_resent rule smss syn_ack_resent }
 {
     if syn_ack_resent {
         u32::from(smss)
@@ -115,7 +115,7 @@ fn window_at_establishment(rule: InitialWindow, smss: u16, syn_ack_resent: bool)
 }
 
 /// IW's rule, where the setting is on.
-fn idle_restart_rule(on: bool, rule: InitialWindow) -> Option<InitialWindow>
+fn initial_window_rule_if_idle_restart_on(on: bool, rule: InitialWindow) -> Option<InitialWindow>
     ensures { result ≡ idle_restart_rule on rule }
 {
     if on { Some(rule) } else { None }
@@ -123,8 +123,8 @@ fn idle_restart_rule(on: bool, rule: InitialWindow) -> Option<InitialWindow>
 
 impl Cong {
     /// The state at establishment: the initial window (RFC 5681, section 3.1; RFC 6928, section 2), one segment where
-    /// the SYN/ACK was sent again. SMSS is in octets. Of the settings it looks at those of `with_congestion_settings`
-    /// alone.
+    /// the SYN/ACK was sent again. SMSS is in octets. Of the settings it looks at those of
+    /// `setting_set_with_congestion_settings` alone.
     pub fn new(settings: &Settings, smss: u16, syn_ack_resent: bool) -> Cong
         requires from { 64 ≤ smss }
         requires to { smss ≤ 65495 }
@@ -133,7 +133,11 @@ impl Cong {
     {
         settings.law_invariant();
         Cong {
-            cwnd: window_at_establishment(settings.initial_window, smss, syn_ack_resent),
+            cwnd: initial_cwnd_smss_if_syn_ack_resent(
+                settings.initial_window,
+                smss,
+                syn_ack_resent,
+            ),
             ssthresh: settings.initial_ssthresh,
             dup_acks: 0,
             limited_transmit: settings.limited_transmit,
@@ -145,7 +149,7 @@ impl Cong {
             expired: false,
             abc_limit: settings.abc_limit,
             follows_expiry: false,
-            idle_restart_rule: idle_restart_rule(
+            idle_restart_rule: initial_window_rule_if_idle_restart_on(
                 settings.slow_start_after_idle,
                 settings.initial_window,
             ),
@@ -155,7 +159,7 @@ impl Cong {
     }
 
     /// With the settings that `new` consults.
-    pub fn with_congestion_settings(consulted_settings: SettingSet) -> SettingSet
+    pub fn setting_set_with_congestion_settings(consulted_settings: SettingSet) -> SettingSet
         ensures { result ≡ begun_settings consulted_settings }
     {
         SettingSet {
@@ -261,7 +265,7 @@ impl Cong {
     }
 
     /// The algorithm of recovery with SACK.
-    pub fn recovery_algorithm(&self) -> RecoveryAlgorithm
+    pub fn sack_recovery_algorithm(&self) -> RecoveryAlgorithm
         ensures { result ≡ self.now.recovery_algorithm }
     {
         self.recovery_algorithm
@@ -285,7 +289,7 @@ impl Cong {
     }
 
     /// An entry has sent the segment at SND.UNA again (RFC 6675, section 5, step 4.3).
-    pub fn note_entry_retransmit(&mut self, segment: Span)
+    pub fn set_high_and_rescue_rxt_to_segment_end(&mut self, segment: Span)
         ensures { self.new ≡ entered_to segment self.old }
     {
         self.high_rxt = segment.end;
@@ -339,7 +343,7 @@ impl Cong {
 
     /// An ACK in recovery with SACK, with this SMSS and pipe in octets: by PRR it sets the window, before anything is sent (RFC
     /// 9937, section 6).
-    pub fn set_prr_cwnd(&mut self, smss: u16, pipe: u32)
+    pub fn set_cwnd_pipe_plus_sndcnt_if_prr(&mut self, smss: u16, pipe: u32)
         ensures { self.new ≡ with_prr_cwnd smss pipe self.old }
     {
         if self.is_prr_recovering() {

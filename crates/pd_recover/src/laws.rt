@@ -2,7 +2,7 @@
 ghost use Rattle.pd_recover.specs.Laws.{StaysWithin, BeginsByUses, CountsOctets, KeepsSlowStart, RestartsWhenIdle, DefaultsAreRfc5681, SendsInProportion, CountsRecovery, Rfc6675IgnoresPrr, EndsInTime, AcksKeepRecovery, RescuesOnce, KeepsWindow, SparesSacked, ChoosesSendable};
 
 /// The laws of congestion control and loss recovery, whatever happens.
-pub fn law_recovery()
+pub fn law_congestion_control_and_loss_recovery()
     ensures windows { StaysWithin }
     ensures consulted_settings { BeginsByUses }
     ensures counting { CountsOctets }

@@ -16,7 +16,7 @@
 //! ```
 //!
 //! Windows and counts are always in their ranges: `IsCongView` (specs/Cong.antt). The law
-//! `law_recovery` says what holds of all states that the rules reach.
+//! `law_congestion_control_and_loss_recovery` says what holds of all states that the rules reach.
 //!
 //! Why it is so:
 //! - `on_ack` sends nothing. It is a function from a state and an ACK to the next state and what
@@ -42,6 +42,6 @@ mod prr;
 pub use ack::{Ack, Delivery, SackNews};
 pub use ack_action::AckAction;
 pub use congestion::Cong;
-pub use laws::law_recovery;
+pub use laws::law_congestion_control_and_loss_recovery;
 pub use next_segment::NextSegment;
 pub use prr::PrrState;

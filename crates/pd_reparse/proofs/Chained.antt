@@ -9,7 +9,7 @@ use Rattle.pd_script.specs.declared.event_reader.NextEvent.TheVariants.{Got}
 use Rattle.pd_script.specs.declared.script_events.Event.{Event}
 use Rattle.pd_script.specs.Items.{starts_event, is_end, starts_event_or_end, next_is}
 use Rattle.pd_script.specs.Laws.{ItemsStandThere}
-use Rattle.pd_script.specs.Next.{next_place, lookahead_line_of, IsNextEvent}
+use Rattle.pd_script.specs.Next.{place_of_next_token_or_end, lookahead_line_of, IsNextEvent}
 use Rattle.pd_script.specs.Reader.{Read}
 use Rattle.pd_script.specs.EventReading.{event_at}
 use Rattle.pd_script.specs.Script.{followed, may_follow, after_header}
@@ -29,7 +29,7 @@ on_after zero (t ∷ rest) h = or-right (starts_event t) (is_end t) h
 on_after (suc n) (t ∷ rest) h = h
 
 module _ (law : ItemsStandThere) (lines : List (List ℕ)) (plain : AreLines lines) where
-  stand : (p : Place) (front rest : List Item) → items lines p ≡ front ++ rest → next_is starts_event_or_end rest ≡ true → items lines (next_place rest) ≡ rest
+  stand : (p : Place) (front rest : List Item) → items lines p ≡ front ++ rest → next_is starts_event_or_end rest ≡ true → items lines (place_of_next_token_or_end rest) ≡ rest
   stand p front [] e h = absurd cc
   stand p front (t ∷ rest) e h = law lines p front t rest plain e h
 
@@ -52,9 +52,9 @@ module _ (law : ItemsStandThere) (lines : List (List ℕ)) (plain : AreLines lin
   by_follow n ih place ts e rest read there true h =
       let on = on_after n rest h in
       let T = Reads-event.laws.took ts e rest read in
-      let after : items lines (next_place rest) ≡ rest = stand place T.front rest (there ∙ T.parts) on in
-      let is : IsNextEvent lines place (Got e (next_place rest) (lookahead_line_of rest)) = rw (there, after) (Reads-event.sound ts e rest read, on, refl) in
-      one place (next_place rest) rest e (parsed_events_in n rest).events is (ih (next_place rest) rest (λ s. after))
+      let after : items lines (place_of_next_token_or_end rest) ≡ rest = stand place T.front rest (there ∙ T.parts) on in
+      let is : IsNextEvent lines place (Got e (place_of_next_token_or_end rest) (lookahead_line_of rest)) = rw (there, after) (Reads-event.sound ts e rest read, on, refl) in
+      one place (place_of_next_token_or_end rest) rest e (parsed_events_in n rest).events is (ih (place_of_next_token_or_end rest) rest (λ s. after))
 
   by_read : (n : ℕ) → ((p : Place) (us : List Item) → IsChained n p us) → (place : Place) (ts : List Item) → items lines place ≡ ts → (r : Read Event) → event_at ts ≡ r → AreChained lines place (with_parsed_event (parsed_events_in n) (followed (may_follow n) r)).events
   by_read n ih place ts there (Err rest) h = none place

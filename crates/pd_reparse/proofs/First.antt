@@ -18,7 +18,7 @@ use Rattle.pd_script.specs.Script.{header_of, header_end, header_in, after_heade
 use Rattle.pd_script.proofs.Apart.{is_lexeme}
 use Rattle.pd_script.proofs.GrammarLaws.{Reads-event}
 use Rattle.pd_reparse.specs.declared.parsed_event.ParsedEvent.{ParsedEvent}
-use Rattle.pd_reparse.specs.Reading.{ReadingView, parsed_events_in, reading_in, reading_of, events_of, is_decided_within, kept_of, IsReadingOfFirst}
+use Rattle.pd_reparse.specs.Reading.{ReadingView, parsed_events_in, reading_in, reading_of, events_of, is_decided_within_first_lines, kept_of, IsReadingOfFirst}
 use Rattle.pd_script.specs.Header.{place_after_item}
 use Rattle.pd_reparse.proofs.Scripts.{reading_is_script}
 use Rattle.pd_reparse.proofs.Common.{shared}
@@ -103,8 +103,8 @@ again same line last k xs ys up agree le m up_after =
 
 -- ---- texts
 
-pub tally_is : (same : ℕ) (ds : List ParsedEvent) → tally same ds ≡ count_by (λ (d : ParsedEvent). is_decided_within same d.lookahead_line) ds
-tally_is same ds = is_count_by (tally same) (λ (d : ParsedEvent). is_decided_within same d.lookahead_line) refl (λ d ds. refl) ds
+pub tally_is : (same : ℕ) (ds : List ParsedEvent) → tally same ds ≡ count_by (λ (d : ParsedEvent). is_decided_within_first_lines same d.lookahead_line) ds
+tally_is same ds = is_count_by (tally same) (λ (d : ParsedEvent). is_decided_within_first_lines same d.lookahead_line) refl (λ d ds. refl) ds
 
 pub kept_is : (same : ℕ) (r : ReadingView) → kept_of same r ≡ tally same r.events
 unfolding kept_of
@@ -127,7 +127,7 @@ again_in order first lines others same k plain plain_others within equal le =
 
 pub tally_short : (same : ℕ) (ds : List ParsedEvent) → tally same ds ≤ length ds
 tally_short same [] = omega arith
-tally_short same (d ∷ ds) = by_test (is_decided_within same d.lookahead_line) (tally_short same ds)
+tally_short same (d ∷ ds) = by_test (is_decided_within_first_lines same d.lookahead_line) (tally_short same ds)
   where
     by_test : (b : Bool) → tally same ds ≤ length ds → cond b (1 + tally same ds) (tally same ds) ≤ suc (length ds)
     by_test true h = omega (arith, h)

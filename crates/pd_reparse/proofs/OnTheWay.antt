@@ -14,7 +14,7 @@ use Rattle.pd_script.specs.declared.event_reader.NextEvent.TheVariants.{Got, End
 use Rattle.pd_reparse.specs.declared.parsed_event.ParsedEvent.{ParsedEvent}
 use Rattle.pd_reparse.specs.declared.reparse.ReadStep.TheVariants.{Goes}
 use Rattle.pd_reparse.specs.Steps.{IsStep, in_front}
-use Rattle.pd_script.specs.Next.{next_place, lookahead_line_of, got, next_in}
+use Rattle.pd_script.specs.Next.{place_of_next_token_or_end, lookahead_line_of, got, next_in}
 use Rattle.pd_reparse.specs.Reading.{with_parsed_event, no_parsed_event, parsed_events_in}
 
 -- ---- the next event decides
@@ -24,7 +24,7 @@ pub record IsGot (ts : List Item) (e : Event) (after : Place) (lookahead_line : 
   pub start : next_is starts_event ts ≡ true
   pub reads : event_at ts ≡ ok e rest
   pub follows : next_is starts_event_or_end rest ≡ true
-  pub place : next_place rest ≡ after
+  pub place : place_of_next_token_or_end rest ≡ after
   pub reach_is : lookahead_line_of rest ≡ lookahead_line
 
 got_by : (ts : List Item) (e : Event) (after : Place) (lookahead_line : Option ℕ) (r : Read Event) → next_is starts_event ts ≡ true → event_at ts ≡ r → got (followed starts_event_or_end r) ≡ Got e after lookahead_line → IsGot ts e after lookahead_line

@@ -13,13 +13,13 @@ use Rattle.pd_script.specs.Next.{lookahead_line_of}
 use Rattle.pd_script.specs.Reader.{Read}
 use Rattle.pd_script.specs.Script.{followed, may_follow, after_header}
 use Rattle.pd_reparse.specs.declared.parsed_event.ParsedEvent.{ParsedEvent}
-use Rattle.pd_reparse.specs.Reading.{with_parsed_event, no_parsed_event, parsed_events_in, reading_in, reading_of, is_decided_within, ReachesRise}
+use Rattle.pd_reparse.specs.Reading.{with_parsed_event, no_parsed_event, parsed_events_in, reading_in, reading_of, is_decided_within_first_lines, ReachesRise}
 use Rattle.pd_reparse.proofs.First.{tally_is, in_order_after}
 use Rattle.pd_reparse.proofs.Stays.{tally, After, after_event, none_within, no_start, is_more}
 
 -- ---- they rise in the events of items that come in order
 
-later : (n same last : ℕ) (t : Item) (rest : List Item) (line : ℕ) → IsInOrder line last (t ∷ rest) → is_decided_within same (lookahead_line_of (t ∷ rest)) ≡ false → tally same (parsed_events_in n (t ∷ rest)).events ≡ 0
+later : (n same last : ℕ) (t : Item) (rest : List Item) (line : ℕ) → IsInOrder line last (t ∷ rest) → is_decided_within_first_lines same (lookahead_line_of (t ∷ rest)) ≡ false → tally same (parsed_events_in n (t ∷ rest)).events ≡ 0
 later n same last (lexeme x) rest line up out = none_within n same x.from.line last (lexeme x ∷ rest) (is_more x.from.line same out) (omega arith, up.1, up.2, up.3, up.4)
 later n same last (ending m) rest line up out = no_start n same (ending m ∷ rest) refl
 later n same last (bad m) rest line up out = no_start n same (bad m ∷ rest) refl
@@ -52,20 +52,20 @@ readings_rise order lines plain =
 -- ---- counting from the last on
 
 -- where one is decided so and none after it, all up to it are
-ends_with : (same m : ℕ) (ds : List ParsedEvent) (d : ParsedEvent) → ReachesRise ds → m < length ds → is_decided_within same (get_or ds m d).lookahead_line ≡ true → tally same (drop (suc m) ds) ≡ 0 → tally same ds ≡ suc m
+ends_with : (same m : ℕ) (ds : List ParsedEvent) (d : ParsedEvent) → ReachesRise ds → m < length ds → is_decided_within_first_lines same (get_or ds m d).lookahead_line ≡ true → tally same (drop (suc m) ds) ≡ 0 → tally same ds ≡ suc m
 ends_with same m [] d up lt is none = absurd (omega (arith, lt))
 ends_with same zero (x ∷ ds) d up lt is none = rw (is, none) refl
-ends_with same (suc m) (x ∷ ds) d up lt is none = by_test (is_decided_within same x.lookahead_line) refl (ends_with same m ds d up.1 (omega (arith, lt)) is none)
+ends_with same (suc m) (x ∷ ds) d up lt is none = by_test (is_decided_within_first_lines same x.lookahead_line) refl (ends_with same m ds d up.1 (omega (arith, lt)) is none)
   where
-    by_test : (b : Bool) → is_decided_within same x.lookahead_line ≡ b → tally same ds ≡ suc m → cond b (1 + tally same ds) (tally same ds) ≡ suc (suc m)
+    by_test : (b : Bool) → is_decided_within_first_lines same x.lookahead_line ≡ b → tally same ds ≡ suc m → cond b (1 + tally same ds) (tally same ds) ≡ suc (suc m)
     by_test true e h = omega (arith, h)
     by_test false e h = absurd (let out = tally_is same ds ∙ up.0 same e in omega (arith, h, out))
 
-pub all_so_far : (same count : ℕ) (ds : List ParsedEvent) (d : ParsedEvent) → ReachesRise ds → count ≤ length ds → 0 < count → is_decided_within same (get_or ds (count - 1) d).lookahead_line ≡ true → tally same (drop count ds) ≡ 0 → count ≡ count_by (λ (e : ParsedEvent). is_decided_within same e.lookahead_line) ds
+pub all_so_far : (same count : ℕ) (ds : List ParsedEvent) (d : ParsedEvent) → ReachesRise ds → count ≤ length ds → 0 < count → is_decided_within_first_lines same (get_or ds (count - 1) d).lookahead_line ≡ true → tally same (drop count ds) ≡ 0 → count ≡ count_by (λ (e : ParsedEvent). is_decided_within_first_lines same e.lookahead_line) ds
 all_so_far same zero ds d up le some is none = absurd (omega (arith, some))
 all_so_far same (suc m) ds d up le some is none =
     let first : suc m - 1 ≡ m = omega arith in
     sym (sym (tally_is same ds) ∙ ends_with same m ds d up (omega (arith, le)) (rw first at is) none)
 
-pub none_so_far : (same count : ℕ) (ds : List ParsedEvent) → count ≡ 0 → tally same (drop count ds) ≡ 0 → 0 ≡ count_by (λ (e : ParsedEvent). is_decided_within same e.lookahead_line) ds
+pub none_so_far : (same count : ℕ) (ds : List ParsedEvent) → count ≡ 0 → tally same (drop count ds) ≡ 0 → 0 ≡ count_by (λ (e : ParsedEvent). is_decided_within_first_lines same e.lookahead_line) ds
 none_so_far same count ds zeros none = sym (sym (tally_is same ds) ∙ (rw zeros at none))

@@ -21,7 +21,7 @@ use Rattle.pd_script.proofs.Laws.{ok, next-same}
 use Rattle.pd_script.proofs.GrammarLaws.{Reads-event}
 use Rattle.pd_reparse.specs.declared.parsed_event.ParsedEvent.{ParsedEvent}
 use Rattle.pd_script.specs.Next.{lookahead_line_of}
-use Rattle.pd_reparse.specs.Reading.{parsed_event, with_parsed_event, no_parsed_event, parsed_events_in, is_decided_within, last_place}
+use Rattle.pd_reparse.specs.Reading.{parsed_event, with_parsed_event, no_parsed_event, parsed_events_in, is_decided_within_first_lines, last_place}
 use Rattle.pd_reparse.specs.Steps.{in_front}
 use Rattle.pd_reparse.proofs.Common.{shared}
 
@@ -71,7 +71,7 @@ starts_no_header t h =
 -- the number of events that are decided, by recursion
 abbrev pub tally : ℕ → List ParsedEvent → ℕ
 tally same [] = 0
-tally same (d ∷ ds) = cond (is_decided_within same d.lookahead_line) (1 + tally same ds) (tally same ds)
+tally same (d ∷ ds) = cond (is_decided_within_first_lines same d.lookahead_line) (1 + tally same ds) (tally same ds)
 
 pub record After (line last : ℕ) (back : List Item) : Type 0 where
   pub from : ℕ
@@ -94,7 +94,7 @@ after_event line last xs e rest h up =
 above : (same n : ℕ) → same < n → nat_le n same ≡ false
 above same n h = grind (arith, nat_tests)
 
-not_within : (same line last : ℕ) (t : Item) (rest : List Item) → same < line → IsInOrder line last (t ∷ rest) → is_decided_within same (lookahead_line_of (t ∷ rest)) ≡ false
+not_within : (same line last : ℕ) (t : Item) (rest : List Item) → same < line → IsInOrder line last (t ∷ rest) → is_decided_within_first_lines same (lookahead_line_of (t ∷ rest)) ≡ false
 not_within same line last (lexeme x) rest lt up = above same x.from.line (omega (arith, up.0))
 not_within same line last (ending n) rest lt up = refl
 not_within same line last (bad n) rest lt up = above same n (omega (arith, up.0))
@@ -113,7 +113,7 @@ none_within (suc n) same line last xs lt up = by_test (next_is starts_event xs) 
     Others = (from : ℕ) (ys : List Item) → same < from → IsInOrder from last ys → tally same (parsed_events_in n ys).events ≡ 0
 
     by_next : (b : Bool) (e : Event) (t : Item) (rest : List Item) → After line last (t ∷ rest) → ((from : ℕ) (ys : List Item) → same < from → IsInOrder from last ys → tally same (parsed_events_in n ys).events ≡ 0) → tally same (with_parsed_event (parsed_events_in n) (cond b (Ok (e, t ∷ rest)) (Err (t ∷ rest)))).events ≡ 0
-    by_next true e t rest B ih = not_one (is_decided_within same (lookahead_line_of (t ∷ rest))) (tally same (parsed_events_in n (t ∷ rest)).events) (not_within same B.from last t rest (omega (arith, B.later)) B.rises) (ih B.from (t ∷ rest) (omega (arith, B.later)) B.rises)
+    by_next true e t rest B ih = not_one (is_decided_within_first_lines same (lookahead_line_of (t ∷ rest))) (tally same (parsed_events_in n (t ∷ rest)).events) (not_within same B.from last t rest (omega (arith, B.later)) B.rises) (ih B.from (t ∷ rest) (omega (arith, B.later)) B.rises)
     by_next false e t rest B ih = refl
 
     by_read : (r : Read Event) → event_at xs ≡ r → ((from : ℕ) (ys : List Item) → same < from → IsInOrder from last ys → tally same (parsed_events_in n ys).events ≡ 0) → tally same (with_parsed_event (parsed_events_in n) (followed (may_follow n) r)).events ≡ 0
@@ -285,7 +285,7 @@ below : (same n : ℕ) (r : Read Event) → ((ts : List Item) → tally same (pa
 below same n (Err rest) ih none = omega arith
 below same n (Ok x) ih none = by_test n (next_is (may_follow n) x.1) refl (ih x.1) (none x.1)
   where
-    last_within : (ts : List Item) → next_is is_end ts ≡ true → is_decided_within same (lookahead_line_of ts) ≡ false
+    last_within : (ts : List Item) → next_is is_end ts ≡ true → is_decided_within_first_lines same (lookahead_line_of ts) ≡ false
     last_within ts e = rw e refl
 
     one : (w : Bool) (t m : ℕ) → t ≤ m → cond w (1 + t) t ≤ suc m
@@ -295,7 +295,7 @@ below same n (Ok x) ih none = by_test n (next_is (may_follow n) x.1) refl (ih x.
     by_test : (m : ℕ) (b : Bool) → next_is (may_follow m) x.1 ≡ b → tally same (parsed_events_in m x.1).events ≤ m - 1 → (m ≡ 0 → tally same (parsed_events_in m x.1).events ≡ 0) → tally same (with_parsed_event (parsed_events_in m) (cond b (Ok x) (Err x.1))).events ≤ m
     by_test m false f t z = omega arith
     by_test zero true f t z = rw (last_within x.1 f) (omega (arith, z refl))
-    by_test (suc m) true f t z = one (is_decided_within same (lookahead_line_of x.1)) (tally same (parsed_events_in (suc m) x.1).events) m (let less : suc m - 1 ≡ m = omega arith in rw less at t)
+    by_test (suc m) true f t z = one (is_decided_within_first_lines same (lookahead_line_of x.1)) (tally same (parsed_events_in (suc m) x.1).events) m (let less : suc m - 1 ≡ m = omega arith in rw less at t)
 
 pub tally_below : (same n : ℕ) (ts : List Item) → tally same (parsed_events_in n ts).events ≤ n - 1
 unfolding parsed_events_in

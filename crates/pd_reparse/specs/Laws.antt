@@ -5,7 +5,7 @@ use Rattle.pd_lex.specs.declared.token.Place.{Place}
 use Rattle.pd_lex.specs.Places.{first_place}
 use Rattle.pd_lex.specs.Lexing.{items}
 use Rattle.pd_script.specs.declared.event_reader.NextEvent.TheVariants.{Got}
-use Rattle.pd_script.specs.Next.{next_place, IsNextEvent}
+use Rattle.pd_script.specs.Next.{place_of_next_token_or_end, IsNextEvent}
 use Rattle.pd_script.specs.Script.{script_of, after_header}
 use Rattle.pd_reparse.specs.declared.parsed_event.ParsedEvent.{ParsedEvent}
 use Rattle.pd_reparse.specs.Reading.{reading_of, script_part, kept_of}
@@ -30,7 +30,7 @@ AreChained lines place (d ∷ ds) = IsNextEvent lines place (Got d.event d.after
 
 -- where the first token after a text's header stands
 abbrev pub place_of_events : List (List ℕ) → Place
-place_of_events lines = next_place (after_header (items lines first_place))
+place_of_events lines = place_of_next_token_or_end (after_header (items lines first_place))
 
 -- the events that a text is read as come one after the other, the first at the first token after the header
 abbrev pub EventsAreChained : Type 0

@@ -10,7 +10,7 @@ use Rattle.pd_script.specs.Reader.{Read}
 use Rattle.pd_script.specs.EventReading.{next_line, event_at}
 use Rattle.pd_script.specs.Script.{followed, may_follow, at_end, header_in, after_header}
 use Rattle.pd_script.specs.Header.{HeaderView}
-use Rattle.pd_script.specs.Next.{next_place, lookahead_line_of}
+use Rattle.pd_script.specs.Next.{place_of_next_token_or_end, lookahead_line_of}
 use Rattle.pd_script.specs.declared.script_events.Event.{Event}
 use Rattle.pd_script.specs.declared.parsed.Parsed.{Parsed}
 use Rattle.pd_reparse.specs.declared.parsed_event.ParsedEvent.{ParsedEvent}
@@ -28,7 +28,7 @@ pub record ParsedEventsAndFault : Type 0 where
 
 -- an event that these items follow: the line of the first decided it, and there reading goes on
 abbrev pub parsed_event : Event → List Item → ParsedEvent
-parsed_event event rest = record { event = event; lookahead_line = lookahead_line_of rest; after = next_place rest }
+parsed_event event rest = record { event = event; lookahead_line = lookahead_line_of rest; after = place_of_next_token_or_end rest }
 
 -- an event that was read and what decided it, in front of those that are found further on; or the line of the fault
 abbrev pub with_parsed_event : (List Item → ParsedEventsAndFault) → Read Event → ParsedEventsAndFault
@@ -68,18 +68,18 @@ last_place place [] = place
 last_place place (d ∷ ds) = last_place d.after ds
 
 -- a line at or below the first so many; no line is none of them
-abbrev pub is_decided_within : ℕ → Option ℕ → Bool
-is_decided_within same None = false
-is_decided_within same (Some line) = nat_le line same
+abbrev pub is_decided_within_first_lines : ℕ → Option ℕ → Bool
+is_decided_within_first_lines same None = false
+is_decided_within_first_lines same (Some line) = nat_le line same
 
 -- where an event isn't decided by some first lines, none after it is
 abbrev pub ReachesRise : List ParsedEvent → Type 0
 ReachesRise [] = Unit {0}
-ReachesRise (d ∷ ds) = ((same : ℕ) → is_decided_within same d.lookahead_line ≡ false → count_by (λ (e : ParsedEvent). is_decided_within same e.lookahead_line) ds ≡ 0) × ReachesRise ds
+ReachesRise (d ∷ ds) = ((same : ℕ) → is_decided_within_first_lines same d.lookahead_line ≡ false → count_by (λ (e : ParsedEvent). is_decided_within_first_lines same e.lookahead_line) ds ≡ 0) × ReachesRise ds
 
 -- how many events the first lines of a text decide
 unfoldable pub kept_of : ℕ → ReadingView → ℕ
-kept_of same r = count_by (λ (d : ParsedEvent). is_decided_within same d.lookahead_line) r.events
+kept_of same r = count_by (λ (d : ParsedEvent). is_decided_within_first_lines same d.lookahead_line) r.events
 
 -- the reading is that of some text whose first lines are those of this one
 pub record IsReadingOfFirst (same : ℕ) (lines : List (List ℕ)) (r : ReadingView) : Type 0 where

@@ -14,7 +14,7 @@
 //!
 //! `reread` gives the reading of the whole new text, and keeps exactly `kept_of` events
 //! (specs/Reading.antt). Without what decided its events, a reading is what `pd_script` parses: the
-//! law `law_readings`. If the first lines don't decide an event, they decide none after it:
+//! law `law_readings_are_scripts`. If the first lines don't decide an event, they decide none after it:
 //! `ReachesRise`.
 //!
 //! Why it is so:
@@ -36,7 +36,9 @@ mod reparse;
 mod reread_result;
 mod shared_list;
 
-pub use laws::{law_events_are_chained, law_first_events, law_readings};
+pub use laws::{
+    law_equal_first_lines_keep_first_events, law_events_are_chained, law_readings_are_scripts,
+};
 pub use parsed_event::ParsedEvent;
 pub use reading::Reading;
 pub use reparse::{read, reread};

@@ -1,6 +1,6 @@
 //! Events, each with what decided it.
 ghost use Rattle.std.specs.Prelude.{◌≡◌, count_by, IfOk};
-ghost use Rattle.pd_reparse.specs.Reading.{is_decided_within, ReachesRise};
+ghost use Rattle.pd_reparse.specs.Reading.{is_decided_within_first_lines, ReachesRise};
 ghost use Rattle.pd_reparse.specs.declared.parsed_event.ParsedEvent.{ParsedEvent};
 
 use crate::shared_list::{SharedList, TryClone};
@@ -32,8 +32,8 @@ impl ParsedEvent {
     }
 
     /// Whether one of the first `same` lines decided it.
-    pub fn is_decided_within(&self, same: usize) -> bool
-        ensures { result ≡ is_decided_within same self.now.lookahead_line }
+    pub fn is_decided_within_first_lines(&self, same: usize) -> bool
+        ensures { result ≡ is_decided_within_first_lines same self.now.lookahead_line }
     {
         match self.lookahead_line {
             Some(line) => line <= same,
@@ -54,13 +54,16 @@ impl TryClone for ParsedEvent {
 
 /// How many of the events one of the first `same` lines decided. It begins at the last, since those that it passes over
 /// are read again.
-pub fn count_decided_within(events: &SharedList<ParsedEvent>, same: usize) -> usize
+pub fn count_events_decided_within_first_lines(
+    events: &SharedList<ParsedEvent>,
+    same: usize,
+) -> usize
     requires { ReachesRise events.now }
-    ensures { result ≡ count_by (λ (d : ParsedEvent). is_decided_within same d.lookahead_line) events.now }
+    ensures { result ≡ count_by (λ (d : ParsedEvent). is_decided_within_first_lines same d.lookahead_line) events.now }
 {
     let mut count = events.len();
     'later: while count > 0 {
-        if events.at(count - 1).is_decided_within(same) {
+        if events.at(count - 1).is_decided_within_first_lines(same) {
             return count;
         }
         count -= 1;

@@ -92,7 +92,7 @@ impl Reading {
     }
 
     /// The place after the first events, one at least.
-    pub fn place_after_events(&self, count: usize) -> Place
+    pub fn place_after_first_events(&self, count: usize) -> Place
         requires some { 0 < count }
         requires within { count ≤ length self.now.events }
         ensures { (start : Place) → last_place start (take count self.now.events) ≡ result }

@@ -4,13 +4,14 @@ ghost use Rattle.pd_lex.specs.Lexing.{items};
 ghost use Rattle.pd_reparse.specs.Reading.{IsReadingOfFirst, ReachesRise, reading_of, kept_of};
 ghost use Rattle.pd_reparse.specs.Steps.{IsReadOn, IsStep};
 
-use crate::parsed_event::{ParsedEvent, count_decided_within};
+use crate::parsed_event::{ParsedEvent, count_events_decided_within_first_lines};
 use crate::reading::Reading;
 use crate::reread_result::Reread;
 use crate::shared_list::SharedList;
-use pd_lex::{Place, law_first_lines};
+use pd_lex::{Place, law_first_lines_fix_tokens_in_order};
 use pd_script::{
-    EventReader, Header, MAX_EVENTS, NextEventStatus, law_items_stand_there, read_header,
+    EventReader, Header, MAX_EVENTS, NextEventStatus, law_reading_resumes_at_item_place,
+    read_header,
 };
 use pd_text::Lines;
 use std::alloc::{AllocError, Global};
@@ -54,9 +55,9 @@ pub fn reread(
     ensures kept { IfOk result (λ again. again.kept ≡ kept_of same old.now) }
 {
     // The laws of tokens do no work: what is kept rests on them.
-    law_first_lines();
-    law_items_stand_there();
-    let kept = count_kept(old, same);
+    law_first_lines_fix_tokens_in_order();
+    law_reading_resumes_at_item_place();
+    let kept = count_events_kept_by_same_first_lines(old, same);
     if kept == 0 {
         let reading = read(alloc, lines)?;
         return Ok(Reread { reading, kept });
@@ -64,18 +65,18 @@ pub fn reread(
     lines.law_invariant();
     let header = old.header().copy()?;
     let events = old.first_events(kept)?;
-    let place = old.place_after_events(kept);
+    let place = old.place_after_first_events(kept);
     let reading = read_remaining_events(alloc, lines, header, events, place)?;
     Ok(Reread { reading, kept })
 }
 
 /// How many events of a text's reading its first `same` lines decide.
 #[tactic(auto, unfolding(crate::specs::Reading::kept_of))]
-fn count_kept(old: &Reading, same: usize) -> usize
+fn count_events_kept_by_same_first_lines(old: &Reading, same: usize) -> usize
     requires { ReachesRise old.now.events }
     ensures { result ≡ kept_of same old.now }
 {
-    count_decided_within(old.events(), same)
+    count_events_decided_within_first_lines(old.events(), same)
 }
 
 /// Reads the events from a place on, after a header and events that are known.
@@ -94,7 +95,12 @@ fn read_remaining_events(
     let mut reader = EventReader::at(lines, place);
     'events: for i in events.len()..MAX_EVENTS {
         let mut parsed_event = ParsedEvent::placeholder();
-        match read_next_event(alloc, &mut reader, MAX_EVENTS - i - 1, &mut parsed_event)? {
+        match read_parsed_event_into_or_stop(
+            alloc,
+            &mut reader,
+            MAX_EVENTS - i - 1,
+            &mut parsed_event,
+        )? {
             ReadStep::Goes => events.push(parsed_event)?,
             ReadStep::Stops(fault) => return Ok(Reading::new(header, events, fault)?),
         }
@@ -111,7 +117,7 @@ fn count_lines_from(lines: &Lines, place: Place) -> usize
 }
 
 /// Reads the next event in the place of another, where so many more may follow it.
-fn read_next_event(
+fn read_parsed_event_into_or_stop(
     alloc: Global,
     reader: &mut EventReader,
     more: usize,
@@ -119,7 +125,7 @@ fn read_next_event(
 ) -> Result<ReadStep, AllocError>
     ensures { IfOk result (IsStep reader.new reader.old more parsed_event.new) }
 {
-    match reader.read_event(alloc, &mut parsed_event.event)? {
+    match reader.read_next_event_into(alloc, &mut parsed_event.event)? {
         NextEventStatus::After(after, lookahead_line) => {
             if more == 0 && lookahead_line.is_some() {
                 return Ok(ReadStep::Stops(lookahead_line));

@@ -142,7 +142,7 @@ impl<T: TryClone + Drop> SharedList<T> {
             rest,
             count,
         } = mem::replace(self, SharedList::new(alloc));
-        let mut items = merge_trailing_blocks(alloc, &mut blocks, rest)?;
+        let mut items = pop_and_merge_small_trailing_blocks(alloc, &mut blocks, rest)?;
         items.shrink_to_fit();
         blocks.push(SharedBlock::new(alloc, items)?)?;
         *self = SharedList {
@@ -166,7 +166,7 @@ impl<T: TryClone + Drop> SharedList<T> {
             return Ok(SharedList::new(alloc));
         }
         let (whole, last) = locate_item(self.blocks.as_slice(), count - 1);
-        let mut blocks = shared_first_blocks(alloc, self.blocks.as_slice(), whole)?;
+        let mut blocks = shared_whole_first_blocks(alloc, self.blocks.as_slice(), whole)?;
         let rest = if whole < self.blocks.len() {
             share_or_clone_first(alloc, &mut blocks, &self.blocks[whole], last + 1)?
         } else {
@@ -198,7 +198,7 @@ fn locate_item<T: Drop>(blocks: &[SharedBlock<T>], index: usize) -> (usize, usiz
 }
 
 /// The first blocks, shared, with room for two more: one that is shared in part, and one of what is put after it.
-fn shared_first_blocks<T: Drop>(
+fn shared_whole_first_blocks<T: Drop>(
     alloc: Global,
     blocks: &[SharedBlock<T>],
     count: usize,
@@ -209,7 +209,7 @@ fn shared_first_blocks<T: Drop>(
     let mut shared_first_blocks = Vec::with_capacity(alloc, count + 2)?;
     for i in 0..count {
         let block = &blocks[i];
-        shared_first_blocks.push(block.share_first(block.len())?)?;
+        shared_first_blocks.push(block.share_first_without_copying(block.len())?)?;
     }
     Ok(shared_first_blocks)
 }
@@ -224,8 +224,8 @@ fn share_or_clone_first<T: TryClone + Drop>(
     requires { count ≤ length block.now }
     ensures { IfOk result (λ rest. items_in blocks.new.items ++ rest.items ≡ items_in blocks.old.items ++ take count block.now) }
 {
-    if block.should_share(count) {
-        blocks.push(block.share_first(count)?)?;
+    if block.should_share_rather_than_copy_first(count) {
+        blocks.push(block.share_first_without_copying(count)?)?;
         return Ok(Vec::new(alloc));
     }
     cloned_first_items(alloc, block.as_slice(), count)
@@ -233,7 +233,7 @@ fn share_or_clone_first<T: TryClone + Drop>(
 
 /// Takes away the last blocks that become one with the items after them, and gives all these items. Each has no more items
 /// than are after it, and room for them.
-fn merge_trailing_blocks<T: TryClone + Drop>(
+fn pop_and_merge_small_trailing_blocks<T: TryClone + Drop>(
     alloc: Global,
     blocks: &mut Vec<SharedBlock<T>>,
     rest: Vec<T>,

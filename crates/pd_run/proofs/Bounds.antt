@@ -25,9 +25,9 @@ use Rattle.pd_match.specs.Packets.{mismatch}
 use Rattle.pd_match.specs.declared.kinds.Kind.{Kind}
 use Rattle.pd_run.specs.Prechecks.{failed_precheck}
 use Rattle.pd_run.specs.InboundSegment.{segment_in}
-use Rattle.pd_run.specs.Limits.{is_long, written_times, written_blocking_end, is_action_over, is_over_limit}
-use Rattle.pd_run.specs.Step.{RunStateView, tolerance_of, comparison_noted, on_step, judged, with_state, action_time, acted, arrives, on_arrival, answers, on_answer, on_expiry, expires, awaited, packet_taken, performed, unless_failed_precheck, event_outcome, at_line, step}
-use Rattle.pd_run.specs.Times.{is_single_moment, time_of, time_range_of, may_be_in_time, base_after}
+use Rattle.pd_run.specs.Limits.{is_long, written_times, written_blocking_end, is_action_number_over_limit, is_any_event_number_over_limit}
+use Rattle.pd_run.specs.Step.{RunStateView, tolerance_of, comparison_noted, on_step, judged, with_state, action_time_not_before_clock, acted, arrives, on_arrival, answers, on_answer, on_expiry, expires, awaited, packet_taken, performed, unless_failed_precheck, perform_event_and_find_stop, at_line, step}
+use Rattle.pd_run.specs.Times.{is_single_moment, single_moment_or_base, time_range_of, is_not_too_late_within_tolerance, base_after_expected_packet}
 use Rattle.pd_run.specs.declared.prechecks.Precheck.{Precheck}
 use Rattle.pd_run.specs.declared.prechecks.Precheck.TheVariants.{OverLimit}
 use Rattle.pd_run.specs.declared.stop_reason.StopReason.{StopReason}
@@ -59,11 +59,11 @@ or_false_last true b h = absurd cc
 or_false_last false b h = h
 
 -- where no number of an event is over its limit, none of its action is
-pub action_within : (e : Event) → is_over_limit e ≡ false → is_action_over e.action ≡ false
-action_within e h = or_false_last (list_any is_long (written_times e.time) || list_any is_long (written_blocking_end e.blocking_end)) (is_action_over e.action) h
+pub action_within : (e : Event) → is_any_event_number_over_limit e ≡ false → is_action_number_over_limit e.action ≡ false
+action_within e h = or_false_last (list_any is_long (written_times e.time) || list_any is_long (written_blocking_end e.blocking_end)) (is_action_number_over_limit e.action) h
 
 -- a time within its limit lies at most 3,600 seconds after the base, or after the start
-moment_within : (base : ℕ) (time : Time) → list_any is_long (written_times time) ≡ false → time_of base time ≤ base + 3600000000
+moment_within : (base : ℕ) (time : Time) → list_any is_long (written_times time) ≡ false → single_moment_or_base base time ≤ base + 3600000000
 moment_within base Any h = omega arith
 moment_within base (Absolute t) h = grind (arith, nat_tests)
 moment_within base (Relative t) h = grind (arith, nat_tests)
@@ -98,7 +98,7 @@ answers_on : (old new : HostView) (rule : SenderState → Result (SenderState ×
 answers_on old new rule a live h = let told : AnswersFrom None old rule (Ok a) new = subst (λ o. AnswersFrom o old rule (Ok a) new) live h in told.0
 
 -- an event acts at the clock or later
-pub acts_later : (r : RunStateView) (e : Event) (clock moment : ℕ) → clock ≡ r.clock → moment ≡ action_time r e → clock ≤ moment
+pub acts_later : (r : RunStateView) (e : Event) (clock moment : ℕ) → clock ≡ r.clock → moment ≡ action_time_not_before_clock r e → clock ≤ moment
 acts_later r e clock moment same is = omega (arith, same, is)
 
 oldest : (n : ℕ) (packets : List Sent) (p : Sent) → AreInOrder n packets → slice_get packets 0 ≡ Some p → p.at ≤ n
@@ -120,19 +120,19 @@ unbarred came None s h = (refl, h)
 unbarred came (Some bar) s h = absurd cc
 
 pub step_performs : (r s : RunStateView) (e : Event) → step r e ≡ Ok s → performed r e e.action ≡ Ok s
-step_performs r s e h = (unbarred (performed r e e.action) (failed_precheck r.base e) s (goes e.line (event_outcome r e) s h)).1
+step_performs r s e h = (unbarred (performed r e e.action) (failed_precheck r.base e) s (goes e.line (perform_event_and_find_stop r e) s h)).1
 
 -- its numbers are within their limits
-pub within_limits : (base : ℕ) (e : Event) → failed_precheck base e ≡ None → is_over_limit e ≡ false
-within_limits base e h = go (is_over_limit e) _ h
+pub within_limits : (base : ℕ) (e : Event) → failed_precheck base e ≡ None → is_any_event_number_over_limit e ≡ false
+within_limits base e h = go (is_any_event_number_over_limit e) _ h
   where
     go : (b : Bool) (rest : Option Precheck) → (if b then Some OverLimit else rest) ≡ None → b ≡ false
     go true rest h = absurd cc
     go false rest h = refl
 
-pub step_unlimited : (r s : RunStateView) (e : Event) → step r e ≡ Ok s → is_over_limit e ≡ false
+pub step_unlimited : (r s : RunStateView) (e : Event) → step r e ≡ Ok s → is_any_event_number_over_limit e ≡ false
 step_unlimited r s e h =
-    within_limits r.base e (unbarred (performed r e e.action) (failed_precheck r.base e) s (goes e.line (event_outcome r e) s h)).0
+    within_limits r.base e (unbarred (performed r e e.action) (failed_precheck r.base e) s (goes e.line (perform_event_and_find_stop r e) s h)).0
 
 step_short : (r s : RunStateView) (e : Event) → step r e ≡ Ok s → list_any is_long (written_times e.time) ≡ false
 step_short r s e h = or_false _ _ (or_false _ _ (step_unlimited r s e h))
@@ -181,42 +181,42 @@ module _ (K : ℕ → SenderState → Type 0) (laws : IsKept K) where
 
   -- after an event that acted
   acted_within : (n : ℕ) (r : RunStateView) (e : Event) (t : SenderState)
-      → IsWithin K n r → time_of r.base e.time ≤ n + 3600000000 → K (action_time r e) t
+      → IsWithin K n r → single_moment_or_base r.base e.time ≤ n + 3600000000 → K (action_time_not_before_clock r e) t
       → IsWithin K (n + 3600000000) (acted r e t)
   acted_within n r e t within moment up =
       let clock : r.clock ≤ n = within.clock in
       record { live = within.live; clock = omega arith; base = moment; up_to = up }
 
   arrival_within : (n : ℕ) (r s : RunStateView) (e : Event) (p : Packet) (came : Result SenderState Halt) → arrives r e p ≡ came
-      → IsWithin K n r → time_of r.base e.time ≤ n + 3600000000
+      → IsWithin K n r → single_moment_or_base r.base e.time ≤ n + 3600000000
       → on_arrival r e came ≡ Ok s → IsWithin K (n + 3600000000) s
   arrival_within n r s e p (Ok t) is within moment h =
       subst (IsWithin K (n + 3600000000)) (given (acted r e t) s h)
-      (acted_within n r e t within moment (arrival_keeps_up (segment_in p) r.clock (action_time r e) r.host.state t (omega arith) within.up_to is))
+      (acted_within n r e t within moment (arrival_keeps_up (segment_in p) r.clock (action_time_not_before_clock r e) r.host.state t (omega arith) within.up_to is))
   arrival_within n r s e p (Err halt) is within moment h = absurd cc
 
   answer_within : (n : ℕ) (r s : RunStateView) (e : Event) (call : Call) (came : Result (SenderState × Answer) Halt) → answers r e call ≡ came
-      → IsWithin K n r → time_of r.base e.time ≤ n + 3600000000
+      → IsWithin K n r → single_moment_or_base r.base e.time ≤ n + 3600000000
       → on_answer r e call came ≡ Ok s → IsWithin K (n + 3600000000) s
   answer_within n r s e call (Ok (t, a)) is within moment h =
       subst (IsWithin K (n + 3600000000)) (agreed (acted r e t) s _ (result_mismatch call.result a) h)
-      (acted_within n r e t within moment (call_keeps_up call r.clock (action_time r e) r.host.state t a (omega arith) within.up_to is))
+      (acted_within n r e t within moment (call_keeps_up call r.clock (action_time_not_before_clock r e) r.host.state t a (omega arith) within.up_to is))
   answer_within n r s e call (Err halt) is within moment h = absurd cc
 
   -- after a packet that was taken
   taken_within : (n : ℕ) (r s : RunStateView) (e : Event) (p : Packet) (first : Option Sent) → slice_get r.host.state.endpoint.outbox 0 ≡ first
-      → IsWithin K n r → time_of r.base e.time ≤ n
+      → IsWithin K n r → single_moment_or_base r.base e.time ≤ n
       → packet_taken e p r first ≡ Ok s → IsWithin K n s
   taken_within n r s e p None is within moment h = absurd cc
   taken_within n r s e p (Some sent) is within moment h =
-      let next : RunStateView = record r { host = without_oldest r.host; base = base_after r.base e.time sent.at } in
+      let next : RunStateView = record r { host = without_oldest r.host; base = base_after_expected_packet r.base e.time sent.at } in
       let same : next ≡ s = agreed next s _ (mismatch p (time_range_of r.base e.time) sent (tolerance_of r)) h in
       let clock : r.clock ≤ n = within.clock in
       let left : sent.at ≤ r.clock = oldest r.clock r.host.state.endpoint.outbox sent (laws.ordered r.clock r.host.state within.up_to) is in
       subst (IsWithin K n) same (record {
         live = within.live;
         clock = within.clock;
-        base = base_within (is_single_moment e.time) (time_of r.base e.time) r.base sent.at n moment within.base (omega arith);
+        base = base_within (is_single_moment e.time) (single_moment_or_base r.base e.time) r.base sent.at n moment within.base (omega arith);
         up_to = laws.taking r.clock r.host within.up_to;
       })
 
@@ -246,7 +246,7 @@ module _ (K : ℕ → SenderState → Type 0) (laws : IsKept K) where
   expires_within n r s e None is_due within h = absurd cc
   expires_within n r s e (Some at) is_due within h =
       expired n at r s (advanced at r.host.state) refl is_due within
-      (in_reach (may_be_in_time (time_range_of r.base e.time) (tolerance_of r) at) (on_expiry r at (advanced at r.host.state)) s h)
+      (in_reach (is_not_too_late_within_tolerance (time_range_of r.base e.time) (tolerance_of r) at) (on_expiry r at (advanced at r.host.state)) s h)
 
   later : (n : ℕ) (r : RunStateView) → IsWithin K n r → IsWithin K (n + 3600000000) r
   later n r within =
@@ -260,17 +260,17 @@ module _ (K : ℕ → SenderState → Type 0) (laws : IsKept K) where
   awaited_within n r s e false within h = subst (Waited n r) (given r s h) (later n r within, refl)
 
   leaves_within : (n : ℕ) (r s : RunStateView) (e : Event) (p : Packet) (came : Result RunStateView StopReason) → awaited r e ≡ came
-      → IsWithin K n r → time_of r.base e.time ≤ n + 3600000000
+      → IsWithin K n r → single_moment_or_base r.base e.time ≤ n + 3600000000
       → on_step (λ q. packet_taken e p q (slice_get q.host.state.endpoint.outbox 0)) (λ reason. Err reason) came ≡ Ok s
       → IsWithin K (n + 3600000000) s
   leaves_within n r s e p (Ok t) is within moment h =
       let waited : Waited n r t = awaited_within n r t e (length r.host.state.endpoint.outbox == 0) within is in
       taken_within (n + 3600000000) t s e p (slice_get t.host.state.endpoint.outbox 0) refl waited.0
-      (subst (λ (b : ℕ). time_of b e.time ≤ n + 3600000000) (sym waited.1) moment) h
+      (subst (λ (b : ℕ). single_moment_or_base b e.time ≤ n + 3600000000) (sym waited.1) moment) h
   leaves_within n r s e p (Err v) is within moment h = absurd cc
 
   performed_within : (n : ℕ) (r s : RunStateView) (e : Event) (action : Action)
-      → IsWithin K n r → time_of r.base e.time ≤ n + 3600000000 → performed r e action ≡ Ok s → IsWithin K (n + 3600000000) s
+      → IsWithin K n r → single_moment_or_base r.base e.time ≤ n + 3600000000 → performed r e action ≡ Ok s → IsWithin K (n + 3600000000) s
   performed_within n r s e (Inbound p) within moment h = arrival_within n r s e p (arrives r e p) refl within moment h
   performed_within n r s e (Outbound p) within moment h =
       leaves_within n (comparison_noted r) s e p (awaited (comparison_noted r) e) refl
@@ -282,5 +282,5 @@ module _ (K : ℕ → SenderState → Type 0) (laws : IsKept K) where
   pub step_within : (n : ℕ) (r s : RunStateView) (e : Event) → IsWithin K n r → step r e ≡ Ok s → IsWithin K (n + 3600000000) s
   step_within n r s e within h =
       let base : r.base ≤ n = within.base in
-      let moment : time_of r.base e.time ≤ r.base + 3600000000 = moment_within r.base e.time (step_short r s e h) in
+      let moment : single_moment_or_base r.base e.time ≤ r.base + 3600000000 = moment_within r.base e.time (step_short r s e h) in
       performed_within n r s e e.action within (omega arith) (step_performs r s e h)

@@ -32,8 +32,8 @@ use Rattle.pd_run.specs.InboundSegment.{segment_in}
 use Rattle.pd_run.specs.Laws.{ToleranceStays}
 use Rattle.pd_run.specs.Prechecks.{failed_precheck}
 use Rattle.pd_run.specs.Run.{start_of, tolerance_in, states_from, states_in}
-use Rattle.pd_run.specs.Step.{RunStateView, tolerance_of, comparison_noted, on_step, judged, with_state, action_time, acted, arrives, on_arrival, answers, on_answer, on_expiry, expires, awaited, packet_taken, leaves, performed, unless_failed_precheck, event_outcome, at_line, step}
-use Rattle.pd_run.specs.Times.{time_range_of, base_after, may_be_in_time}
+use Rattle.pd_run.specs.Step.{RunStateView, tolerance_of, comparison_noted, on_step, judged, with_state, action_time_not_before_clock, acted, arrives, on_arrival, answers, on_answer, on_expiry, expires, awaited, packet_taken, leaves, performed, unless_failed_precheck, perform_event_and_find_stop, at_line, step}
+use Rattle.pd_run.specs.Times.{time_range_of, base_after_expected_packet, is_not_too_late_within_tolerance}
 use Rattle.pd_run.specs.declared.verdict.Verdict.{Verdict}
 use Rattle.pd_run.specs.declared.prechecks.Precheck.{Precheck}
 use Rattle.pd_run.specs.declared.stop_reason.StopReason.{StopReason}
@@ -117,18 +117,18 @@ notes_too s u t a b = record { settings = b.settings ∙ a.settings; consulted_s
 arrival_keeps : InputsOnlyUse → (r s : RunStateView) (e : Event) (p : Packet) (came : Result SenderState Halt) → arrives r e p ≡ came
     → on_arrival r e came ≡ Ok s → Keeps r s
 arrival_keeps laws r s e p (Ok t) is h =
-    let came = both (arrived (segment_in p) (action_time r e)) (advanced (action_time r e) r.host.state) t is in
+    let came = both (arrived (segment_in p) (action_time_not_before_clock r e)) (advanced (action_time_not_before_clock r e) r.host.state) t is in
     let notes : Notes r.host.state t =
-    notes_too r.host.state came.0 t (laws.advances_note (action_time r e) r.host.state came.0 came.1) (laws.arrivals_note (segment_in p) (action_time r e) came.0 t came.2) in
+    notes_too r.host.state came.0 t (laws.advances_note (action_time_not_before_clock r e) r.host.state came.0 came.1) (laws.arrivals_note (segment_in p) (action_time_not_before_clock r e) came.0 t came.2) in
     subst (Keeps r) (given (acted r e t) s h) (record { settings = notes.settings; consulted_settings = notes.consulted_settings; header_tolerance = refl; used_tolerance = refl })
 arrival_keeps laws r s e p (Err halt) is h = absurd cc
 
 answer_keeps : InputsOnlyUse → (r s : RunStateView) (e : Event) (call : Call) (came : Result (SenderState × Answer) Halt) → answers r e call ≡ came
     → on_answer r e call came ≡ Ok s → Keeps r s
 answer_keeps laws r s e call (Ok (t, a)) is h =
-    let came = both (called call (action_time r e)) (advanced (action_time r e) r.host.state) (t, a) is in
+    let came = both (called call (action_time_not_before_clock r e)) (advanced (action_time_not_before_clock r e) r.host.state) (t, a) is in
     let notes : Notes r.host.state t =
-    notes_too r.host.state came.0 t (laws.advances_note (action_time r e) r.host.state came.0 came.1) (laws.calls_note call (action_time r e) came.0 t a came.2) in
+    notes_too r.host.state came.0 t (laws.advances_note (action_time_not_before_clock r e) r.host.state came.0 came.1) (laws.calls_note call (action_time_not_before_clock r e) came.0 t a came.2) in
     subst (Keeps r) (agreed (acted r e t) s _ (result_mismatch call.result a) h)
     (record { settings = notes.settings; consulted_settings = notes.consulted_settings; header_tolerance = refl; used_tolerance = refl })
 answer_keeps laws r s e call (Err halt) is h = absurd cc
@@ -136,7 +136,7 @@ answer_keeps laws r s e call (Err halt) is h = absurd cc
 taken_keeps : (r s : RunStateView) (e : Event) (p : Packet) (first : Option Sent) → packet_taken e p r first ≡ Ok s → Keeps r s
 taken_keeps r s e p None h = absurd cc
 taken_keeps r s e p (Some sent) h =
-    let next : RunStateView = record r { host = without_oldest r.host; base = base_after r.base e.time sent.at } in
+    let next : RunStateView = record r { host = without_oldest r.host; base = base_after_expected_packet r.base e.time sent.at } in
     subst (Keeps r) (agreed next s _ (mismatch p (time_range_of r.base e.time) sent (tolerance_of r)) h)
     (record { settings = refl; consulted_settings = includes_itself r.host.state.consulted_settings; header_tolerance = refl; used_tolerance = refl })
 
@@ -152,7 +152,7 @@ expires_keeps : InputsOnlyUse → (r s : RunStateView) (e : Event) (o : Option �
 expires_keeps laws r s e None h = absurd cc
 expires_keeps laws r s e (Some at) h =
     expiry_keeps laws r s at (advanced at r.host.state) refl
-    (in_reach (may_be_in_time (time_range_of r.base e.time) (tolerance_of r) at) (on_expiry r at (advanced at r.host.state)) s h)
+    (in_reach (is_not_too_late_within_tolerance (time_range_of r.base e.time) (tolerance_of r) at) (on_expiry r at (advanced at r.host.state)) s h)
 
 awaited_keeps : InputsOnlyUse → (r s : RunStateView) (e : Event) (empty : Bool)
     → (if empty then expires r e (deadline_of r.host.state) else Ok r) ≡ Ok s → Keeps r s
@@ -235,7 +235,7 @@ arrival_again : InputsOnlyUse → (r s : RunStateView) (e : Event) (p : Packet) 
     → on_arrival r e came ≡ Ok s → Agree (consulted_settings_of s) r.host.state.settings b
     → on_arrival (run_with_settings b r) e (arrives (run_with_settings b r) e p) ≡ again b s
 arrival_again laws r s e p b (Ok t) is h agree =
-    let at : ℕ = action_time r e in
+    let at : ℕ = action_time_not_before_clock r e in
     let came = both (arrived (segment_in p) at) (advanced at r.host.state) t is in
     let same : acted r e t ≡ s = given (acted r e t) s h in
     let after : Agree (consulted_settings_of (acted r e t)) r.host.state.settings b = subst (λ (q : RunStateView). Agree (consulted_settings_of q) r.host.state.settings b) (sym same) agree in
@@ -253,7 +253,7 @@ answer_again : InputsOnlyUse → (r s : RunStateView) (e : Event) (call : Call) 
     → on_answer r e call came ≡ Ok s → Agree (consulted_settings_of s) r.host.state.settings b
     → on_answer (run_with_settings b r) e call (answers (run_with_settings b r) e call) ≡ again b s
 answer_again laws r s e call b (Ok (t, a)) is h agree =
-    let at : ℕ = action_time r e in
+    let at : ℕ = action_time_not_before_clock r e in
     let came = both (called call at) (advanced at r.host.state) (t, a) is in
     let same : acted r e t ≡ s = agreed (acted r e t) s _ (result_mismatch call.result a) h in
     let after : Agree (consulted_settings_of (acted r e t)) r.host.state.settings b = subst (λ (q : RunStateView). Agree (consulted_settings_of q) r.host.state.settings b) (sym same) agree in
@@ -286,7 +286,7 @@ taken_again : (r s : RunStateView) (e : Event) (p : Packet) (b : Settings) (firs
     → packet_taken e p r first ≡ Ok s → packet_taken e p (run_with_settings b r) first ≡ again b s
 taken_again r s e p b None same h = absurd cc
 taken_again r s e p b (Some sent) same h =
-    let next : RunStateView = record r { host = without_oldest r.host; base = base_after r.base e.time sent.at } in
+    let next : RunStateView = record r { host = without_oldest r.host; base = base_after_expected_packet r.base e.time sent.at } in
     let time_range = time_range_of r.base e.time in
     ap (λ (x : ℕ). judged (run_with_settings b next) (λ kind. Differs kind sent (run_with_settings b r)) (mismatch p time_range sent x)) same
     ∙ judged_again next s b _ _ (mismatch p time_range sent (tolerance_of r)) h
@@ -310,8 +310,8 @@ expires_again laws r s e b (Some at) same h =
     let time_range = time_range_of r.base e.time in
     let here : Result RunStateView StopReason = on_expiry r at (advanced at r.host.state) in
     let there : Result RunStateView StopReason = on_expiry (run_with_settings b r) at (advanced at (with_settings b r.host.state)) in
-    ap (λ (x : ℕ). if may_be_in_time time_range x at then there else Err Missing) same
-    ∙ reach_again (may_be_in_time time_range (tolerance_of r) at) here there s (run_with_settings b s)
+    ap (λ (x : ℕ). if is_not_too_late_within_tolerance time_range x at then there else Err Missing) same
+    ∙ reach_again (is_not_too_late_within_tolerance time_range (tolerance_of r) at) here there s (run_with_settings b s)
     (λ k. expiry_again laws r s at b (advanced at r.host.state) refl k) h
 
 awaited_again : InputsOnlyUse → (r s : RunStateView) (e : Event) (b : Settings) (empty : Bool) → SameTolerance b r
@@ -359,7 +359,7 @@ steps_only_use laws r s e b h agree =
     let u : RunStateView = run_with_settings b r in
     ap (at_line e.line)
     (unbarred_too (failed_precheck r.base e) (performed r e e.action) (performed u e e.action) s (run_with_settings b s)
-    (λ k. performed_again laws r s e e.action b k agree) (goes e.line (event_outcome r e) s h))
+    (λ k. performed_again laws r s e e.action b k agree) (goes e.line (perform_event_and_find_stop r e) s h))
 
 -- Whole runs
 

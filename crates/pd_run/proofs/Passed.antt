@@ -19,7 +19,7 @@ use Rattle.pd_match.specs.Packets.{compared_fields, mismatch}
 use Rattle.pd_match.specs.declared.kinds.Kind.{Kind}
 use Rattle.pd_run.specs.Laws.{PassedPacketsAgree, unmatched, AreAwaited, PassedPacketsAreTaken, PassedCallsAnswer}
 use Rattle.pd_run.specs.Step.{RunStateView, tolerance_of, comparison_noted, on_step, with_state, judged, answers, on_answer, on_expiry, expires, awaited, packet_taken, performed}
-use Rattle.pd_run.specs.Times.{time_range_of, base_after, may_be_in_time}
+use Rattle.pd_run.specs.Times.{time_range_of, base_after_expected_packet, is_not_too_late_within_tolerance}
 use Rattle.pd_run.specs.declared.stop_reason.StopReason.{StopReason}
 use Rattle.pd_run.proofs.Bounds.{given, agreed, in_reach, step_performs}
 
@@ -62,7 +62,7 @@ oldest_taken : (e : Event) (p : Packet) (t s : RunStateView) (packets : List Sen
     → (sent : Sent) × (unmatched t ≡ sent ∷ unmatched s)
 oldest_taken e p t s [] is h = absurd cc
 oldest_taken e p t s (sent ∷ packets) is h =
-    let next : RunStateView = record t { host = without_oldest t.host; base = base_after t.base e.time sent.at } in
+    let next : RunStateView = record t { host = without_oldest t.host; base = base_after_expected_packet t.base e.time sent.at } in
     let same : next ≡ s = agreed next s _ (mismatch p (time_range_of t.base e.time) sent (tolerance_of t)) h in
     let left : unmatched s ≡ packets = ap unmatched (sym same) ∙ ap (drop 1) is in
     (sent, is ∙ ap (λ (l : List Sent). sent ∷ l) (sym left))
@@ -77,7 +77,7 @@ of_due : (r t : RunStateView) (e : Event) (o : Option ℕ) → deadline_of r.hos
 of_due r t e None due none h = absurd cc
 of_due r t e (Some at) due none h =
     let went = of_expiry r t at (advanced at r.host.state)
-    (in_reach (may_be_in_time (time_range_of r.base e.time) (tolerance_of r) at) (on_expiry r at (advanced at r.host.state)) t h) in
+    (in_reach (is_not_too_late_within_tolerance (time_range_of r.base e.time) (tolerance_of r) at) (on_expiry r at (advanced at r.host.state)) t h) in
     inr (at, went.0, none, due, went.1, went.2)
 
 none_less : (n : ℕ) → (suc n == 0) ≡ true → ⊥

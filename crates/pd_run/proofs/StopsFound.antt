@@ -4,7 +4,7 @@ use Rattle.pd_host.specs.declared.halts.Halt.TheVariants as halt
 use Rattle.pd_script.specs.declared.script_events.Event.{Event}
 use Rattle.pd_run.specs.Run.{verdict_from}
 use Rattle.pd_run.specs.Step.{RunStateView, on_step, step}
-use Rattle.pd_run.specs.StopPoints.{stop_reason_if_on_line, stop_by, stop_from, line_of, VerdictsHaveReasons}
+use Rattle.pd_run.specs.StopPoints.{preview_stop_reason_if_on_line, stop_by, stop_from, line_of, VerdictsHaveReasons}
 use Rattle.pd_run.specs.StopReason.{stop_reason, verdict_at, verdict_by_step, ReasonsGiveVerdicts}
 use Rattle.pd_run.specs.declared.prechecks.Precheck.TheVariants.{OverLimit, NotRun, Backwards}
 use Rattle.pd_run.specs.declared.stop_point.StopPoint.{StopPoint}
@@ -43,7 +43,7 @@ no_reason line None h = refl
 no_reason line (Some w) h = absurd cc
 
 -- no reason stops an event that goes on, on whatever line
-pub silent : ReasonsGiveVerdicts → (line : ℕ) (r s : RunStateView) (e : Event) → step r e ≡ Ok s → stop_reason_if_on_line line r e ≡ None
+pub silent : ReasonsGiveVerdicts → (line : ℕ) (r s : RunStateView) (e : Event) → step r e ≡ Ok s → preview_stop_reason_if_on_line line r e ≡ None
 silent law line r s e is = none_on (e.line == line) (stop_reason r e) (no_reason e.line (stop_reason r e) (law r e ∙ ap verdict_by_step is))
 
 -- the event that stops the run on its line
@@ -61,7 +61,7 @@ same_line line at (Some w) v h l = let own : line_of (verdict_at at w) ≡ Some 
 
 -- an event that goes on leaves the stop to those after it
 pub stop_after : (line n : ℕ) (es rest : List Event) (r s : RunStateView) (e : Event)
-    → es ≡ e ∷ rest → stop_reason_if_on_line line r e ≡ None → step r e ≡ Ok s → stop_from line n es r ≡ stop_from line (n + 1) rest s
+    → es ≡ e ∷ rest → preview_stop_reason_if_on_line line r e ≡ None → step r e ≡ Ok s → stop_from line n es r ≡ stop_from line (n + 1) rest s
 stop_after line n es rest r s e split none h =
     ap (λ (l : List Event). stop_from line n l r) split
     ∙ (ap (λ (o : Option StopReason). stop_by n r o (on_step (stop_from line (n + 1) rest) (λ v. None) (step r e))) none
@@ -70,7 +70,7 @@ stop_after line n es rest r s e split none h =
 -- the claim of an event, by what its step came to
 abbrev Claim : ℕ → ℕ → RunStateView → Event → List Event → Result RunStateView Verdict → Type 0
 Claim line n r e es came =
-    Found line (stop_by n r (stop_reason_if_on_line line r e) (on_step (stop_from line (n + 1) es) (λ v. None) came))
+    Found line (stop_by n r (preview_stop_reason_if_on_line line r e) (on_step (stop_from line (n + 1) es) (λ v. None) came))
     (on_step (verdict_from (n + 1) es) (λ v. v) came)
 
 -- a run that goes on
@@ -78,7 +78,7 @@ onwards : ReasonsGiveVerdicts → (line n : ℕ) (r s : RunStateView) (e : Event
     → step r e ≡ Ok s → Found line (stop_from line (n + 1) es s) (verdict_from (n + 1) es s) → Claim line n r e es (step r e)
 onwards law line n r s e es is later =
     subst (Claim line n r e es) (sym is)
-    (passed_over line n r (stop_reason_if_on_line line r e) (stop_from line (n + 1) es s) (verdict_from (n + 1) es s)
+    (passed_over line n r (preview_stop_reason_if_on_line line r e) (stop_from line (n + 1) es s) (verdict_from (n + 1) es s)
     (silent law line r s e is) later)
 
 -- a run that stops here

@@ -51,21 +51,21 @@ abbrev pub is_block_over : SackBlock → Bool
 is_block_over b = is_high b.left || is_high b.right
 
 -- an option's value, or the number of its blocks, is over its limit
-abbrev pub is_option_over : PacketOption → Bool
-is_option_over (Mss n) = nat_lt 65535 n
-is_option_over (Wscale n) = nat_lt 255 n
-is_option_over (Sack blocks) = nat_lt 4 (length blocks) || list_any is_block_over blocks
-is_option_over _ = false
+abbrev pub is_option_over_limits : PacketOption → Bool
+is_option_over_limits (Mss n) = nat_lt 65535 n
+is_option_over_limits (Wscale n) = nat_lt 255 n
+is_option_over_limits (Sack blocks) = nat_lt 4 (length blocks) || list_any is_block_over blocks
+is_option_over_limits _ = false
 
 -- more than 16 options, or one of them over its limits
-abbrev pub are_options_over : Options → Bool
-are_options_over (Listed options) = nat_lt 16 (length options) || list_any is_option_over options
-are_options_over _ = false
+abbrev pub are_options_over_limits : Options → Bool
+are_options_over_limits (Listed options) = nat_lt 16 (length options) || list_any is_option_over_limits options
+are_options_over_limits _ = false
 
 -- a number of the packet is over its limit; a window field is at most 65,535
-abbrev pub is_packet_over : Packet → Bool
-is_packet_over p =
-    is_high p.start || is_high p.end || is_present_number_over (2 ^ 31 - 1) p.ack || is_present_number_over 65535 p.win || are_options_over p.options
+abbrev pub is_packet_number_over_limit : Packet → Bool
+is_packet_number_over_limit p =
+    is_high p.start || is_high p.end || is_present_number_over (2 ^ 31 - 1) p.ack || is_present_number_over 65535 p.win || are_options_over_limits p.options
 
 -- the call's name is `write`
 abbrev pub is_write : Function → Bool
@@ -78,12 +78,12 @@ is_count_over (Some (Int n)) = nat_lt 262144 n
 is_count_over _ = false
 
 -- a number of the action is over its limit
-abbrev pub is_action_over : Action → Bool
-is_action_over (Inbound p) = is_packet_over p
-is_action_over (Outbound p) = is_packet_over p
-is_action_over (Calls call) = is_write call.function && is_count_over (slice_get call.arguments 2)
-is_action_over _ = false
+abbrev pub is_action_number_over_limit : Action → Bool
+is_action_number_over_limit (Inbound p) = is_packet_number_over_limit p
+is_action_number_over_limit (Outbound p) = is_packet_number_over_limit p
+is_action_number_over_limit (Calls call) = is_write call.function && is_count_over (slice_get call.arguments 2)
+is_action_number_over_limit _ = false
 
 -- some number of the event is over its limit
-abbrev pub is_over_limit : Event → Bool
-is_over_limit e = list_any is_long (written_times e.time) || list_any is_long (written_blocking_end e.blocking_end) || is_action_over e.action
+abbrev pub is_any_event_number_over_limit : Event → Bool
+is_any_event_number_over_limit e = list_any is_long (written_times e.time) || list_any is_long (written_blocking_end e.blocking_end) || is_action_number_over_limit e.action

@@ -1,7 +1,7 @@
 -- The reasons for which an event isn't run, whatever the sender does.
 use Rattle.std.specs.Prelude.{ℕ, not, Option, Some, None, if◌then◌else◌}
 use Rattle.pd_script.specs.declared.script_events.Event.{Event}
-use Rattle.pd_run.specs.Limits.{is_over_limit}
+use Rattle.pd_run.specs.Limits.{is_any_event_number_over_limit}
 use Rattle.pd_run.specs.Supported.{is_shape_supported}
 use Rattle.pd_run.specs.Times.{is_before_base}
 use Rattle.pd_run.specs.declared.prechecks.Precheck.{Precheck}
@@ -10,6 +10,6 @@ use Rattle.pd_run.specs.declared.prechecks.Precheck.TheVariants.{OverLimit, NotR
 -- the checks of an event before anything happens, in their order, by the base of its time: the first that it doesn't pass
 abbrev pub failed_precheck : ℕ → Event → Option Precheck
 failed_precheck base e =
-    if is_over_limit e then Some OverLimit
+    if is_any_event_number_over_limit e then Some OverLimit
     else (if not (is_shape_supported e) then Some NotRun
     else (if is_before_base base e.time then Some Backwards else None))

@@ -22,7 +22,7 @@ use Rattle.pd_match.specs.declared.kinds.Kind.{Kind}
 use Rattle.pd_run.specs.Prechecks.{failed_precheck}
 use Rattle.pd_run.specs.InboundSegment.{segment_in}
 pub use Rattle.pd_run.specs.RunStates.{RunStateView}
-use Rattle.pd_run.specs.Times.{time_of, time_range_of, may_be_in_time, base_after}
+use Rattle.pd_run.specs.Times.{single_moment_or_base, time_range_of, is_not_too_late_within_tolerance, base_after_expected_packet}
 use Rattle.pd_run.specs.Verdicts.{verdict_at}
 use Rattle.pd_run.specs.declared.prechecks.Precheck.{Precheck}
 use Rattle.pd_run.specs.declared.prechecks.Precheck.TheVariants.{NotRun}
@@ -55,16 +55,16 @@ abbrev pub with_state : RunStateView → SenderState → RunStateView
 with_state r s = record r { host = record r.host { state = s } }
 
 -- a packet that arrives, and a call, act at the later of the event's time and the clock
-abbrev pub action_time : RunStateView → Event → ℕ
-action_time r e = max (time_of r.base e.time) r.clock
+abbrev pub action_time_not_before_clock : RunStateView → Event → ℕ
+action_time_not_before_clock r e = max (single_moment_or_base r.base e.time) r.clock
 
 -- the run after that: the clock is that moment, the base is the event's time
 abbrev pub acted : RunStateView → Event → SenderState → RunStateView
-acted r e s = record (with_state r s) { clock = action_time r e; base = time_of r.base e.time }
+acted r e s = record (with_state r s) { clock = action_time_not_before_clock r e; base = single_moment_or_base r.base e.time }
 
 -- a packet arrives, after all expiries up to its moment
 abbrev pub arrives : RunStateView → Event → Packet → Result SenderState Halt
-arrives r e p = then_on (arrived (segment_in p) (action_time r e)) (advanced (action_time r e) r.host.state)
+arrives r e p = then_on (arrived (segment_in p) (action_time_not_before_clock r e)) (advanced (action_time_not_before_clock r e) r.host.state)
 
 -- the result of the arrival: the run goes on, or the sender halts
 abbrev pub on_arrival : RunStateView → Event → Result SenderState Halt → Result RunStateView StopReason
@@ -73,7 +73,7 @@ on_arrival r e (Err halt) = Err (Halted halt)
 
 -- a call is made, after all expiries up to its moment
 abbrev pub answers : RunStateView → Event → Call → Result (SenderState × Answer) Halt
-answers r e call = then_on (called call (action_time r e)) (advanced (action_time r e) r.host.state)
+answers r e call = then_on (called call (action_time_not_before_clock r e)) (advanced (action_time_not_before_clock r e) r.host.state)
 
 -- the result of the call: its answer is compared with the written one, in the run after it, or the sender halts
 abbrev pub on_answer : RunStateView → Event → Call → Result (SenderState × Answer) Halt → Result RunStateView StopReason
@@ -90,7 +90,7 @@ on_expiry r at (Err halt) = Err (Halted halt)
 abbrev pub expires : RunStateView → Event → Option ℕ → Result RunStateView StopReason
 expires r e None = Err Missing
 expires r e (Some at) =
-    if may_be_in_time (time_range_of r.base e.time) (tolerance_of r) at then on_expiry r at (advanced at r.host.state) else Err Missing
+    if is_not_too_late_within_tolerance (time_range_of r.base e.time) (tolerance_of r) at then on_expiry r at (advanced at r.host.state) else Err Missing
 
 -- where no packet is unmatched, the next expiry is awaited
 abbrev pub awaited : RunStateView → Event → Result RunStateView StopReason
@@ -100,7 +100,7 @@ awaited r e = if length r.host.state.endpoint.outbox == 0 then expires r e (dead
 abbrev pub packet_taken : Event → Packet → RunStateView → Option Sent → Result RunStateView StopReason
 packet_taken e p r None = Err Missing
 packet_taken e p r (Some sent) =
-    judged (record r { host = without_oldest r.host; base = base_after r.base e.time sent.at }) (λ kind. Differs kind sent r)
+    judged (record r { host = without_oldest r.host; base = base_after_expected_packet r.base e.time sent.at }) (λ kind. Differs kind sent r)
     (mismatch p (time_range_of r.base e.time) sent (tolerance_of r))
 
 -- a packet is expected to have left
@@ -120,8 +120,8 @@ unless_failed_precheck came None = came
 unless_failed_precheck came (Some bar) = Err (FailedPrecheck bar)
 
 -- how an event ends: the run goes on in the next state, or stops for a reason
-abbrev pub event_outcome : RunStateView → Event → Result RunStateView StopReason
-event_outcome r e = unless_failed_precheck (performed r e e.action) (failed_precheck r.base e)
+abbrev pub perform_event_and_find_stop : RunStateView → Event → Result RunStateView StopReason
+perform_event_and_find_stop r e = unless_failed_precheck (performed r e e.action) (failed_precheck r.base e)
 
 -- the same with the reason's verdict at a line
 abbrev pub at_line : ℕ → Result RunStateView StopReason → Result RunStateView Verdict
@@ -130,11 +130,11 @@ at_line line (Err reason) = Err (verdict_at line reason)
 
 -- one event: the next state, or the verdict of a stop
 abbrev pub step : RunStateView → Event → Result RunStateView Verdict
-step r e = at_line e.line (event_outcome r e)
+step r e = at_line e.line (perform_event_and_find_stop r e)
 
 -- why a run stops at an event; nothing where it goes on
 abbrev pub stop_reason : RunStateView → Event → Option StopReason
-stop_reason r e = result_err (event_outcome r e)
+stop_reason r e = result_err (perform_event_and_find_stop r e)
 
 -- the answer of a step, and the state that it left where the run goes on
 abbrev pub IsStepEnd : Result RunStateView Verdict → StepEnd → RunStateView → Type 0

@@ -12,8 +12,8 @@ use Rattle.pd_run.specs.declared.verdict.Verdict.TheVariants as verdict
 use Rattle.pd_run.specs.declared.stop_reason.StopReason.{StopReason}
 
 -- why an event on the line stops a run
-abbrev pub stop_reason_if_on_line : ℕ → RunStateView → Event → Option StopReason
-stop_reason_if_on_line line r e = if e.line == line then stop_reason r e else None
+abbrev pub preview_stop_reason_if_on_line : ℕ → RunStateView → Event → Option StopReason
+preview_stop_reason_if_on_line line r e = if e.line == line then stop_reason r e else None
 
 -- an event stops a run after n others, where there is a reason; else the rest follows
 abbrev pub stop_by : ℕ → RunStateView → Option StopReason → Option StopPoint → Option StopPoint
@@ -24,7 +24,7 @@ stop_by n r None rest = rest
 abbrev pub stop_from : ℕ → ℕ → List Event → RunStateView → Option StopPoint
 stop_from line n [] r = None
 stop_from line n (e ∷ es) r =
-    stop_by n r (stop_reason_if_on_line line r e) (on_step (stop_from line (n + 1) es) (λ v. None) (step r e))
+    stop_by n r (preview_stop_reason_if_on_line line r e) (on_step (stop_from line (n + 1) es) (λ v. None) (step r e))
 
 -- the same of a script that was read, from its first event on a fresh host
 abbrev pub stop_in : ℕ → Settings → Parsed → Option StopPoint

@@ -10,10 +10,10 @@ is_single_moment (Relative t) = true
 is_single_moment _ = false
 
 -- the moment of a single time
-abbrev pub time_of : ℕ → Time → ℕ
-time_of base (Absolute t) = t
-time_of base (Relative t) = base + t
-time_of base _ = base
+abbrev pub single_moment_or_base : ℕ → Time → ℕ
+single_moment_or_base base (Absolute t) = t
+single_moment_or_base base (Relative t) = base + t
+single_moment_or_base base _ = base
 
 -- the first and the last moment of a time; both ends of a relative range count from the base
 abbrev pub time_range_of : ℕ → Time → Option (ℕ × ℕ)
@@ -30,11 +30,11 @@ is_before_base base (AbsoluteRange first last) = nat_lt first base
 is_before_base base _ = false
 
 -- a moment at or before the last one and the tolerance; for `*` any moment
-abbrev pub may_be_in_time : Option (ℕ × ℕ) → ℕ → ℕ → Bool
-may_be_in_time None tolerance at = true
-may_be_in_time (Some time_range) tolerance at = nat_le at (time_range.1 + tolerance)
+abbrev pub is_not_too_late_within_tolerance : Option (ℕ × ℕ) → ℕ → ℕ → Bool
+is_not_too_late_within_tolerance None tolerance at = true
+is_not_too_late_within_tolerance (Some time_range) tolerance at = nat_le at (time_range.1 + tolerance)
 
 -- the base after a packet that left at a moment: the event's time; after a range or `*` the later of the old base and
 -- that moment
-abbrev pub base_after : ℕ → Time → ℕ → ℕ
-base_after base time at = if is_single_moment time then time_of base time else max base at
+abbrev pub base_after_expected_packet : ℕ → Time → ℕ → ℕ
+base_after_expected_packet base time at = if is_single_moment time then single_moment_or_base base time else max base at

@@ -6,10 +6,10 @@ ghost use Rattle.pd_host.specs.InputResults.{Goes, Answers};
 ghost use Rattle.pd_host.specs.Expiries.{advanced};
 ghost use Rattle.pd_host.specs.Host.{IsShort, then_on};
 ghost use Rattle.pd_run.specs.InboundSegment.{segment_in};
-ghost use Rattle.pd_run.specs.Limits.{is_packet_over};
+ghost use Rattle.pd_run.specs.Limits.{is_packet_number_over_limit};
 
-use crate::inbound_segment::segment_of;
-use crate::laws::law_sender;
+use crate::inbound_segment::segment_of_script_packet;
+use crate::laws::law_sender_keeps_time_and_bounds_queueing;
 use pd_host::{Host, HostEnd, SegmentCheck};
 use pd_script::{Call, Packet};
 use pd_seg::Answer;
@@ -21,14 +21,14 @@ use std::alloc::AllocError;
 /// Why the host has ended, here or before.
 #[inline(always)]
 pub fn arrive(host: &mut Host, packet: &Packet, at: u64) -> Result<(), HostEnd>
-    requires fits { is_packet_over packet.now ≡ false }
+    requires fits { is_packet_number_over_limit packet.now ≡ false }
     requires early { at < 2 ^ 62 }
     ensures { Goes host.old (λ s. then_on (arrived (segment_in packet.now) at) (advanced at s)) result host.new }
 {
     host.advance(at)?;
-    match segment_of(host.outbox().allocator(), packet) {
+    match segment_of_script_packet(host.outbox().allocator(), packet) {
         Ok(segment) => host.arrive(&segment, at),
-        Err(_) => Err(host.fail_out_of_memory()),
+        Err(_) => Err(host.end_out_of_memory_unless_ended()),
     }
 }
 
@@ -36,12 +36,15 @@ pub fn arrive(host: &mut Host, packet: &Packet, at: u64) -> Result<(), HostEnd>
 ///
 /// # Errors
 /// `AllocError` where a growth is refused.
-pub fn failed_check_of(host: &Host, packet: &Packet) -> Result<Option<SegmentCheck>, AllocError>
-    requires fits { is_packet_over packet.now ≡ false }
+pub fn failed_check_of_arriving_packet(
+    host: &Host,
+    packet: &Packet,
+) -> Result<Option<SegmentCheck>, AllocError>
+    requires fits { is_packet_number_over_limit packet.now ≡ false }
     ensures { IfOk result (λ failed_check. failed_check ≡ failed_check_in (segment_in packet.now) host.now.state) }
 {
-    let segment = segment_of(host.outbox().allocator(), packet)?;
-    Ok(host.failed_check(&segment))
+    let segment = segment_of_script_packet(host.outbox().allocator(), packet)?;
+    Ok(host.find_deciding_segment_check(&segment))
 }
 
 /// A call is made at a moment.
@@ -49,12 +52,12 @@ pub fn failed_check_of(host: &Host, packet: &Packet) -> Result<Option<SegmentChe
 /// # Errors
 /// Why the host has ended, here or before.
 #[inline(always)]
-pub fn call_answer(host: &mut Host, call: &Call, now: u64) -> Result<Answer, HostEnd>
+pub fn advance_host_and_call(host: &mut Host, call: &Call, now: u64) -> Result<Answer, HostEnd>
     requires early { now < 2 ^ 62 }
     requires short { IsShort host.old.state }
     ensures { Answers host.old (λ s. then_on (called call.now now) (advanced now s)) result host.new }
 {
-    law_sender();
+    law_sender_keeps_time_and_bounds_queueing();
     host.advance(now)?;
     host.call(call, now)
 }

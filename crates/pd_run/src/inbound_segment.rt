@@ -3,7 +3,7 @@ ghost use Rattle.std.specs.Prelude.{◌≡◌, ◌^◌, ◌-◌, false, min, map
 ghost use Rattle.std.specs.List.{list_any};
 ghost use Rattle.pd_match.specs.Agreement.{flags_of};
 ghost use Rattle.pd_run.specs.InboundSegment.{saturated_to_32_bits, span_in, option_in, options_in, segment_in};
-ghost use Rattle.pd_run.specs.Limits.{is_block_over, is_option_over, are_options_over, is_packet_over};
+ghost use Rattle.pd_run.specs.Limits.{is_block_over, is_option_over_limits, are_options_over_limits, is_packet_number_over_limit};
 
 use pd_script::{Options, Packet, PacketOption, SackBlock};
 use pd_seg::{Flags, SackSpans, SegOption, SegOptions, Segment, Span};
@@ -14,21 +14,21 @@ use std::alloc::{AllocError, Global};
 /// # Errors
 /// `AllocError` where a growth is refused.
 #[inline(always)]
-pub fn segment_of(alloc: Global, packet: &Packet) -> Result<Segment, AllocError>
-    requires fits { is_packet_over packet.now ≡ false }
+pub fn segment_of_script_packet(alloc: Global, packet: &Packet) -> Result<Segment, AllocError>
+    requires fits { is_packet_number_over_limit packet.now ≡ false }
     ensures { IfOk result (λ segment. segment ≡ segment_in packet.now) }
 {
     Ok(Segment {
-        flags: flags_of(packet.flags),
+        flags: segment_flags_of_script_flags(packet.flags),
         start: packet.start,
         end: packet.end,
         ack: packet.ack.unwrap_or(0),
         win: packet.win.unwrap_or(0) as u16,
-        options: options_of(alloc, &packet.options)?,
+        options: segment_options_of_listed_or_none(alloc, &packet.options)?,
     })
 }
 
-fn flags_of(written: pd_script::PacketFlags) -> Flags
+fn segment_flags_of_script_flags(written: pd_script::PacketFlags) -> Flags
     ensures { result ≡ flags_of written }
 {
     Flags {
@@ -41,30 +41,39 @@ fn flags_of(written: pd_script::PacketFlags) -> Flags
 }
 
 #[inline(always)]
-fn options_of(alloc: Global, options: &Options) -> Result<SegOptions, AllocError>
-    requires fits { are_options_over options.now ≡ false }
+fn segment_options_of_listed_or_none(
+    alloc: Global,
+    options: &Options,
+) -> Result<SegOptions, AllocError>
+    requires fits { are_options_over_limits options.now ≡ false }
     ensures { IfOk result (λ list. list ≡ options_in options.now) }
 {
     match options {
-        Options::Listed(list) => option_list_of(alloc, list.as_slice()),
+        Options::Listed(list) => segment_options_of_option_list(alloc, list.as_slice()),
         Options::Absent | Options::Any => Ok(SegOptions::new(alloc)),
     }
 }
 
 #[tactic(auto, using(crate::proofs::WithinLimits::none_at))]
-fn option_list_of(alloc: Global, options: &[PacketOption]) -> Result<SegOptions, AllocError>
-    requires fits { list_any is_option_over options.now ≡ false }
+fn segment_options_of_option_list(
+    alloc: Global,
+    options: &[PacketOption],
+) -> Result<SegOptions, AllocError>
+    requires fits { list_any is_option_over_limits options.now ≡ false }
     ensures { IfOk result (λ list. list ≡ map option_in options.now) }
 {
     let mut list = SegOptions::new(alloc);
     for option in options {
-        list.push(option_of(alloc, option)?)?;
+        list.push(segment_option_of_packet_option(alloc, option)?)?;
     }
     Ok(list)
 }
 
-fn option_of(alloc: Global, option: &PacketOption) -> Result<SegOption, AllocError>
-    requires fits { is_option_over option.now ≡ false }
+fn segment_option_of_packet_option(
+    alloc: Global,
+    option: &PacketOption,
+) -> Result<SegOption, AllocError>
+    requires fits { is_option_over_limits option.now ≡ false }
     ensures { IfOk result (λ segment_option. segment_option ≡ option_in option.now) }
 {
     Ok(match option {
@@ -76,7 +85,10 @@ fn option_of(alloc: Global, option: &PacketOption) -> Result<SegOption, AllocErr
         PacketOption::Timestamp(value, echo) => {
             SegOption::Timestamp(saturated_to_32_bits(*value), saturated_to_32_bits(*echo))
         }
-        PacketOption::Sack(blocks) => SegOption::Sack(blocks_of(alloc, blocks.as_slice())?),
+        PacketOption::Sack(blocks) => SegOption::Sack(sack_spans_of_blocks(
+            alloc,
+            blocks.as_slice(),
+        )?),
     })
 }
 
@@ -88,18 +100,18 @@ fn saturated_to_32_bits(number: u64) -> u32
 }
 
 #[tactic(auto, using(crate::proofs::WithinLimits::none_at))]
-fn blocks_of(alloc: Global, blocks: &[SackBlock]) -> Result<SackSpans, AllocError>
+fn sack_spans_of_blocks(alloc: Global, blocks: &[SackBlock]) -> Result<SackSpans, AllocError>
     requires fits { list_any is_block_over blocks.now ≡ false }
     ensures { IfOk result (λ spans. spans ≡ map span_in blocks.now) }
 {
     let mut spans = SackSpans::new(alloc);
     for block in blocks {
-        spans.push(span_of(*block))?;
+        spans.push(span_of_sack_block(*block))?;
     }
     Ok(spans)
 }
 
-fn span_of(block: SackBlock) -> Span
+fn span_of_sack_block(block: SackBlock) -> Span
     requires fits { is_block_over block ≡ false }
     ensures { result ≡ span_in block }
 {

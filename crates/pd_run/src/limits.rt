@@ -1,7 +1,7 @@
 //! The limits of an event's numbers.
 ghost use Rattle.std.specs.Prelude.{◌≡◌};
 ghost use Rattle.std.specs.List.{list_any};
-ghost use Rattle.pd_run.specs.Limits.{is_long, written_times, written_blocking_end, is_present_number_over, is_block_over, is_option_over, are_options_over, is_packet_over, is_write, is_count_over, is_action_over, is_over_limit};
+ghost use Rattle.pd_run.specs.Limits.{is_long, written_times, written_blocking_end, is_present_number_over, is_block_over, is_option_over_limits, are_options_over_limits, is_packet_number_over_limit, is_write, is_count_over, is_action_number_over_limit, is_any_event_number_over_limit};
 
 use pd_script::{
     Action, Argument, BlockingEnd, Call, Event, Function, Options, Packet, PacketOption, SackBlock,
@@ -34,12 +34,12 @@ const MAX_WRITE: u64 = 262_144;
 
 /// Whether some number of the event is over its limit.
 #[inline(always)]
-pub fn is_over_limit(event: &Event) -> bool
-    ensures { result ≡ is_over_limit event.now }
+pub fn is_any_event_number_over_limit(event: &Event) -> bool
+    ensures { result ≡ is_any_event_number_over_limit event.now }
 {
     is_time_over_limit(event.time)
-        || is_blocking_end_over(event.blocking_end)
-        || is_action_over(&event.action)
+        || is_blocking_end_over_limit(event.blocking_end)
+        || is_action_number_over_limit(&event.action)
 }
 
 fn is_time_over_limit(time: Time) -> bool
@@ -54,7 +54,7 @@ fn is_time_over_limit(time: Time) -> bool
     }
 }
 
-fn is_blocking_end_over(blocking_end: Option<BlockingEnd>) -> bool
+fn is_blocking_end_over_limit(blocking_end: Option<BlockingEnd>) -> bool
     ensures { result ≡ list_any is_long (written_blocking_end blocking_end) }
 {
     match blocking_end {
@@ -64,20 +64,20 @@ fn is_blocking_end_over(blocking_end: Option<BlockingEnd>) -> bool
     }
 }
 
-fn is_action_over(action: &Action) -> bool
-    ensures { result ≡ is_action_over action.now }
+fn is_action_number_over_limit(action: &Action) -> bool
+    ensures { result ≡ is_action_number_over_limit action.now }
 {
     match action {
-        Action::Inbound(packet) => is_packet_over(packet),
-        Action::Outbound(packet) => is_packet_over(packet),
-        Action::Call(call) => is_write_over(call),
+        Action::Inbound(packet) => is_packet_number_over_limit(packet),
+        Action::Outbound(packet) => is_packet_number_over_limit(packet),
+        Action::Call(call) => is_write_count_over_limit(call),
         Action::Command => false,
         Action::Code => false,
     }
 }
 
-fn is_write_over(call: &Call) -> bool
-    ensures { result ≡ is_action_over (Action.Call call.now) }
+fn is_write_count_over_limit(call: &Call) -> bool
+    ensures { result ≡ is_action_number_over_limit (Action.Call call.now) }
 {
     match (call.function, call.arguments.as_slice().get(2)) {
         (Function::Write, Some(Argument::Int(count))) => *count > MAX_WRITE,
@@ -85,14 +85,14 @@ fn is_write_over(call: &Call) -> bool
     }
 }
 
-fn is_packet_over(packet: &Packet) -> bool
-    ensures { result ≡ is_packet_over packet.now }
+fn is_packet_number_over_limit(packet: &Packet) -> bool
+    ensures { result ≡ is_packet_number_over_limit packet.now }
 {
     packet.start > MAX_NUMBER
         || packet.end > MAX_NUMBER
         || is_present_number_over(MAX_NUMBER, packet.ack)
         || is_present_number_over(MAX_WINDOW_FIELD, packet.win)
-        || are_options_over(&packet.options)
+        || are_options_over_limits(&packet.options)
 }
 
 fn is_present_number_over(most: u32, number: Option<u32>) -> bool
@@ -104,35 +104,36 @@ fn is_present_number_over(most: u32, number: Option<u32>) -> bool
     }
 }
 
-fn are_options_over(options: &Options) -> bool
-    ensures { result ≡ are_options_over options.now }
+fn are_options_over_limits(options: &Options) -> bool
+    ensures { result ≡ are_options_over_limits options.now }
 {
     match options {
-        Options::Listed(list) => list.len() > MAX_OPTIONS || is_any_option_over(list.as_slice()),
+        Options::Listed(list) => list.len() > MAX_OPTIONS
+            || is_any_option_over_limits(list.as_slice()),
         Options::Absent => false,
         Options::Any => false,
     }
 }
 
-fn is_any_option_over(options: &[PacketOption]) -> bool
-    ensures { result ≡ list_any is_option_over options.now }
+fn is_any_option_over_limits(options: &[PacketOption]) -> bool
+    ensures { result ≡ list_any is_option_over_limits options.now }
 {
-    options.iter().any(|option| is_option_over(option))
+    options.iter().any(|option| is_option_over_limits(option))
 }
 
-fn is_option_over(option: &PacketOption) -> bool
-    ensures { result ≡ is_option_over option.now }
+fn is_option_over_limits(option: &PacketOption) -> bool
+    ensures { result ≡ is_option_over_limits option.now }
 {
     match option {
         PacketOption::Mss(n) => *n > MAX_MSS,
         PacketOption::Wscale(n) => *n > MAX_SHIFT,
         PacketOption::Sack(blocks) => blocks.len() > MAX_BLOCKS
-            || is_any_edge_over(blocks.as_slice()),
+            || is_any_sack_edge_over_limit(blocks.as_slice()),
         _ => false,
     }
 }
 
-fn is_any_edge_over(blocks: &[SackBlock]) -> bool
+fn is_any_sack_edge_over_limit(blocks: &[SackBlock]) -> bool
     ensures { result ≡ list_any is_block_over blocks.now }
 {
     let highest = u64::from(MAX_NUMBER);

@@ -4,8 +4,8 @@ ghost use Rattle.pd_run.specs.Prechecks.{failed_precheck};
 ghost use Rattle.pd_run.specs.Supported.{is_action_supported, is_shape_supported};
 ghost use Rattle.pd_run.specs.Verdicts.{precheck_verdict};
 
-use crate::limits::is_over_limit;
-use crate::times::{is_before_base, is_single_moment};
+use crate::limits::is_any_event_number_over_limit;
+use crate::times::{is_absolute_time_before_base, is_single_moment};
 use crate::verdict::Verdict;
 use pd_match::Kind;
 use pd_script::{Action, Event, Time};
@@ -40,11 +40,11 @@ impl Precheck {
 pub fn failed_precheck(base: u64, event: &Event) -> Option<Precheck>
     ensures { result ≡ failed_precheck base event.now }
 {
-    if is_over_limit(event) {
+    if is_any_event_number_over_limit(event) {
         Some(Precheck::OverLimit)
     } else if !is_shape_supported(event) {
         Some(Precheck::NotRun)
-    } else if is_before_base(base, event.time) {
+    } else if is_absolute_time_before_base(base, event.time) {
         Some(Precheck::Backwards)
     } else {
         None

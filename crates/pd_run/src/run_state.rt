@@ -4,15 +4,15 @@ ghost use Rattle.std.specs.List.{list_any};
 ghost use Rattle.pd_host.specs.ConnStates.{conn_state};
 ghost use Rattle.pd_host.specs.declared.halts.HostEnd.TheVariants.{OutOfMemory};
 ghost use Rattle.pd_run.specs.Limits.{is_long, written_times};
-ghost use Rattle.pd_run.specs.Times.{time_of};
+ghost use Rattle.pd_run.specs.Times.{single_moment_or_base};
 ghost use Rattle.pd_run.specs.Run.{start_of, fresh_run, LetsBegin};
 ghost use Rattle.pd_run.specs.Consulted.{consulted_settings_of, run_with_settings};
-ghost use Rattle.pd_run.specs.Step.{tolerance_of, comparison_noted, action_time};
+ghost use Rattle.pd_run.specs.Step.{tolerance_of, comparison_noted, action_time_not_before_clock};
 
 mod events;
 
-use crate::laws::law_sender;
-use crate::times::time_of;
+use crate::laws::law_sender_keeps_time_and_bounds_queueing;
+use crate::times::single_moment_or_base;
 use crate::verdict::Verdict;
 use pd_host::{ConnState, Host};
 use pd_script::{Event, Header, HeaderKind};
@@ -56,7 +56,7 @@ impl RunState {
     pub fn new(alloc: Global, header: &Header, settings: &Settings) -> Result<RunState, Verdict>
         ensures { result ≡ start_of header.now.items settings.now }
     {
-        match RunState::header_tolerance_of(header) {
+        match RunState::header_tolerance_or_unsupported(header) {
             Ok(header_tolerance) => Ok(RunState::fresh_run(alloc, header_tolerance, settings)),
             Err(verdict) => Err(verdict),
         }
@@ -66,7 +66,7 @@ impl RunState {
     ///
     /// # Errors
     /// As for `new`.
-    pub fn header_tolerance_of(header: &Header) -> Result<Option<u64>, Verdict>
+    pub fn header_tolerance_or_unsupported(header: &Header) -> Result<Option<u64>, Verdict>
         ensures { LetsBegin header.now.items result }
     {
         let mut header_tolerance = None;
@@ -127,7 +127,7 @@ impl RunState {
     pub fn set_settings(&mut self, settings: &Settings)
         ensures { self.new ≡ run_with_settings settings.now self.old }
     {
-        law_sender();
+        law_sender_keeps_time_and_bounds_queueing();
         self.host.set_settings(settings);
     }
 
@@ -168,27 +168,27 @@ impl RunState {
     }
 
     /// A packet is expected.
-    fn note_tolerance_use(&mut self)
+    fn note_tolerance_use_unless_in_header(&mut self)
         ensures { self.new ≡ comparison_noted self.old }
     {
         self.used_tolerance = self.used_tolerance || self.header_tolerance.is_none();
     }
 
     /// The moment at which a packet arrives or a call is made.
-    fn action_time(&self, event: &Event) -> u64
+    fn action_time_not_before_clock(&self, event: &Event) -> u64
         requires base { self.now.base < 2 ^ 61 }
         requires short { list_any is_long (written_times event.now.time) ≡ false }
-        ensures { result ≡ action_time self.now event.now }
+        ensures { result ≡ action_time_not_before_clock self.now event.now }
     {
-        time_of(self.base, event.time).max(self.clock)
+        single_moment_or_base(self.base, event.time).max(self.clock)
     }
 
     /// The base becomes the time of an event that acted.
     fn set_base_to_event_time(&mut self, event: &Event)
         requires base { self.old.base < 2 ^ 61 }
         requires short { list_any is_long (written_times event.now.time) ≡ false }
-        ensures { self.new ≡ record self.old { base = time_of self.old.base event.now.time } }
+        ensures { self.new ≡ record self.old { base = single_moment_or_base self.old.base event.now.time } }
     {
-        self.base = time_of(self.base, event.time);
+        self.base = single_moment_or_base(self.base, event.time);
     }
 }

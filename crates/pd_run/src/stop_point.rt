@@ -1,9 +1,9 @@
 //! Where a run stops, and why.
 ghost use Rattle.std.specs.Prelude.{◌≡◌, ◌<◌, ◌≤◌, ◌^◌, None, IfOk, length};
 ghost use Rattle.pd_host.specs.Host.{IsShort, fresh_host};
-ghost use Rattle.pd_run.specs.StopPoints.{stop_reason_if_on_line, stop_from, stop_in};
+ghost use Rattle.pd_run.specs.StopPoints.{preview_stop_reason_if_on_line, stop_from, stop_in};
 
-use crate::laws::law_sender;
+use crate::laws::law_sender_keeps_time_and_bounds_queueing;
 use crate::run_state::RunState;
 use crate::stepper::StepEnd;
 use crate::stop_reason::StopReason;
@@ -37,7 +37,7 @@ pub fn run_to_failure_on_line(
     ensures { IfOk result (λ stop. stop ≡ stop_in line settings.now parsed.now) }
 {
     match RunState::new(alloc, &parsed.header, settings) {
-        Ok(start) => run_events_to_failure(parsed.events.as_slice(), settings, start, line),
+        Ok(start) => run_events_to_failure_on_line(parsed.events.as_slice(), settings, start, line),
         Err(_) => Ok(None),
     }
 }
@@ -46,7 +46,7 @@ pub fn run_to_failure_on_line(
 ///
 /// # Errors
 /// `AllocError` where a growth is refused.
-pub fn stop_reason_if_on_line(
+pub fn preview_stop_reason_if_on_line(
     run: &RunState,
     event: &Event,
     line: usize,
@@ -55,16 +55,16 @@ pub fn stop_reason_if_on_line(
     requires clock { run.now.clock < 2 ^ 61 }
     requires base { run.now.base < 2 ^ 61 }
     requires short { IsShort run.now.host.state }
-    ensures { IfOk result (λ reason. reason ≡ stop_reason_if_on_line line run.now event.now) }
+    ensures { IfOk result (λ reason. reason ≡ preview_stop_reason_if_on_line line run.now event.now) }
 {
     if event.line == line {
-        run.stop_reason(event)
+        run.preview_stop_reason_at_event(event)
     } else {
         Ok(None)
     }
 }
 
-fn run_events_to_failure(
+fn run_events_to_failure_on_line(
     events: &[Event],
     settings: &Settings,
     start: RunState,
@@ -76,11 +76,11 @@ fn run_events_to_failure(
     requires base { start.base ≡ 0 }
     ensures { IfOk result (λ stop. stop ≡ stop_from line 0 events.now start) }
 {
-    law_sender();
+    law_sender_keeps_time_and_bounds_queueing();
     let mut state = start;
     let mut passed = 0;
     for event in events {
-        if let Some(stop_reason) = stop_reason_if_on_line(&state, event, line)? {
+        if let Some(stop_reason) = preview_stop_reason_if_on_line(&state, event, line)? {
             let before = state;
             return Ok(Some(StopPoint {
                 passed,

@@ -68,7 +68,7 @@ impl StopKind {
     ///
     /// # Errors
     /// `AllocError` where a growth is refused.
-    pub fn into_reason(self, left: RunState) -> Result<StopReason, AllocError>
+    pub fn into_reason_with_run(self, left: RunState) -> Result<StopReason, AllocError>
         ensures { IfOk result (IsReasonOf self left) }
     {
         Ok(match self {

@@ -2,7 +2,7 @@
 ghost use Rattle.std.specs.Prelude.{◌≡◌, ◌<◌, ◌^◌, false};
 ghost use Rattle.std.specs.List.{list_any};
 ghost use Rattle.pd_run.specs.Limits.{is_long, written_times};
-ghost use Rattle.pd_run.specs.Times.{is_single_moment, time_of, time_range_of, is_before_base, may_be_in_time, base_after};
+ghost use Rattle.pd_run.specs.Times.{is_single_moment, single_moment_or_base, time_range_of, is_before_base, is_not_too_late_within_tolerance, base_after_expected_packet};
 
 use pd_script::Time;
 
@@ -14,10 +14,10 @@ pub fn is_single_moment(time: Time) -> bool
 }
 
 /// The moment of a time that is one, from a base, both in microseconds since the start of the run; the base for any other.
-pub fn time_of(base: u64, time: Time) -> u64
+pub fn single_moment_or_base(base: u64, time: Time) -> u64
     requires base { base < 2 ^ 61 }
     requires short { list_any is_long (written_times time) ≡ false }
-    ensures { result ≡ time_of base time }
+    ensures { result ≡ single_moment_or_base base time }
 {
     match time {
         Time::Absolute(t) => t,
@@ -43,7 +43,7 @@ pub fn time_range_of(base: u64, time: Time) -> Option<(u64, u64)>
 }
 
 /// Whether an absolute time, or the first bound of an absolute range, lies before the base.
-pub fn is_before_base(base: u64, time: Time) -> bool
+pub fn is_absolute_time_before_base(base: u64, time: Time) -> bool
     ensures { result ≡ is_before_base base time }
 {
     match time {
@@ -55,8 +55,12 @@ pub fn is_before_base(base: u64, time: Time) -> bool
 
 /// Whether a packet that leaves at a moment may still come in time: no later than the last moment and the tolerance, in
 /// microseconds. `None` is any time.
-pub fn may_be_in_time(time_range: Option<(u64, u64)>, tolerance: u64, at: u64) -> bool
-    ensures { result ≡ may_be_in_time time_range tolerance at }
+pub fn is_not_too_late_within_tolerance(
+    time_range: Option<(u64, u64)>,
+    tolerance: u64,
+    at: u64,
+) -> bool
+    ensures { result ≡ is_not_too_late_within_tolerance time_range tolerance at }
 {
     match time_range {
         None => true,
@@ -66,13 +70,13 @@ pub fn may_be_in_time(time_range: Option<(u64, u64)>, tolerance: u64, at: u64) -
 
 /// The base after an expected packet with a time that met one which left at a moment: the time's moment where it is one, else
 /// the later of the base and that moment.
-pub fn base_after(base: u64, time: Time, at: u64) -> u64
+pub fn base_after_expected_packet(base: u64, time: Time, at: u64) -> u64
     requires base { base < 2 ^ 61 }
     requires short { list_any is_long (written_times time) ≡ false }
-    ensures { result ≡ base_after base time at }
+    ensures { result ≡ base_after_expected_packet base time at }
 {
     if is_single_moment(time) {
-        time_of(base, time)
+        single_moment_or_base(base, time)
     } else {
         base.max(at)
     }

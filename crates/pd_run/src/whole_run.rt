@@ -4,7 +4,7 @@ ghost use Rattle.pd_host.specs.Host.{fresh_host};
 ghost use Rattle.pd_run.specs.Grammatical.{IsVerdictOf};
 ghost use Rattle.pd_run.specs.Run.{verdict_of, stepped_of, verdict_from, stepped_from};
 
-use crate::laws::{law_sender, law_verdicts_are_grammatical};
+use crate::laws::{law_sender_keeps_time_and_bounds_queueing, law_verdicts_are_of_grammar_scripts};
 use crate::run_state::RunState;
 use crate::stepper::{Plain, StepEnd, Stepper};
 use crate::verdict::Verdict;
@@ -21,7 +21,7 @@ pub fn run_all(alloc: Global, lines: &Lines, settings: &Settings) -> Result<Verd
     ensures verdict { IfOk result (λ verdict. verdict ≡ verdict_of lines.now settings.now) }
     ensures grammar { IfOk result (IsVerdictOf lines.now settings.now) }
 {
-    law_verdicts_are_grammatical();
+    law_verdicts_are_of_grammar_scripts();
     run_with_stepper(alloc, lines, settings, &mut Plain::new())
 }
 
@@ -66,7 +66,7 @@ fn run_events<S: Stepper>(
     ensures steps { OnOk result (S.counted stepper.new ≡ S.counted stepper.old + stepped_from events.now start) }
     ensures few { OnOk result (S.counted stepper.new ≤ S.counted stepper.old + 4096) }
 {
-    law_sender();
+    law_sender_keeps_time_and_bounds_queueing();
     let mut state = start;
     let mut passed = 0;
     for event in events {

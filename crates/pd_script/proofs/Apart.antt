@@ -6,7 +6,7 @@ use Rattle.pd_lex.specs.declared.token.TokenKind.TheVariants as kinds
 use Rattle.pd_lex.specs.Tokens.{Item, lexeme, ending, bad}
 use Rattle.std.specs.Str.{bytes_eq}
 use Rattle.std.proofs.lemmas.Slice.Eq.{bytes_eq-Decides}
-use Rattle.pd_script.specs.Items.{is_token, is_any_int, is_int, is_hex, is_num, is_dots, is_command, is_code, is_word, is_symbol, is_dots_kind, is_command_kind, is_code_kind, is_int_kind, is_hex_kind, is_num_kind, is_word_kind, is_symbol_kind, is_end}
+use Rattle.pd_script.specs.Items.{is_token, is_int_of_any_size, is_next_int_within_u32, is_next_hex_within_u32, is_num, is_dots, is_command, is_code, is_word, is_symbol, is_dots_kind, is_command_kind, is_code_kind, is_int_kind, is_hex_kind, is_num_kind, is_word_kind, is_symbol_kind, is_end}
 
 -- ---- tests
 
@@ -110,18 +110,18 @@ lexical f test k t h = at t (k.kind t h)
 
 -- ---- the kinds of the tests
 
-pub int_kind : IsOf is_int_kind is_int
+pub int_kind : IsOf is_int_kind is_next_int_within_u32
 int_kind = record { kind = at }
   where
-    at : (x : Item) → is_int x ≡ true → is_token (λ k text. is_int_kind k) x ≡ true
+    at : (x : Item) → is_next_int_within_u32 x ≡ true → is_token (λ k text. is_int_kind k) x ≡ true
     at (lexeme x) h = and-left _ _ h
     at (ending line) h = h
     at (bad line) h = h
 
-pub hex_kind : IsOf is_hex_kind is_hex
+pub hex_kind : IsOf is_hex_kind is_next_hex_within_u32
 hex_kind = record { kind = at }
   where
-    at : (x : Item) → is_hex x ≡ true → is_token (λ k text. is_hex_kind k) x ≡ true
+    at : (x : Item) → is_next_hex_within_u32 x ≡ true → is_token (λ k text. is_hex_kind k) x ≡ true
     at (lexeme x) h = and-left _ _ h
     at (ending line) h = h
     at (bad line) h = h
@@ -174,8 +174,8 @@ symbol_apart a b other (lexeme x) h = and-false-right (is_symbol_kind x.kind) (b
 symbol_apart a b other (ending line) h = refl
 symbol_apart a b other (bad line) h = refl
 
-pub symbol_no_int : (a : ℕ) (t : Item) → is_symbol a t ≡ true → is_any_int t ≡ false
-symbol_no_int a t h = apart is_symbol_kind is_int_kind (is_symbol a) is_any_int refl (symbol_kind a) (record { kind = λ x g. g }) t h
+pub symbol_no_int : (a : ℕ) (t : Item) → is_symbol a t ≡ true → is_int_of_any_size t ≡ false
+symbol_no_int a t h = apart is_symbol_kind is_int_kind (is_symbol a) is_int_of_any_size refl (symbol_kind a) (record { kind = λ x g. g }) t h
 
 pub symbol_no_word : (a : ℕ) (t : Item) → is_symbol a t ≡ true → is_word t ≡ false
 symbol_no_word a t h = apart is_symbol_kind is_word_kind (is_symbol a) is_word refl (symbol_kind a) word_kind t h

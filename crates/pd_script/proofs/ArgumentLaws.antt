@@ -6,7 +6,7 @@ use Rattle.pd_lex.specs.declared.token.TokenKind.{TokenKind}
 use Rattle.pd_lex.specs.declared.token.TokenKind.TheVariants as kinds
 use Rattle.pd_lex.specs.Places.{first_place}
 use Rattle.pd_lex.specs.Tokens.{Item, lexeme, line_of}
-use Rattle.pd_script.specs.Items.{is_symbol, is_any_int, is_word}
+use Rattle.pd_script.specs.Items.{is_symbol, is_int_of_any_size, is_word}
 use Rattle.pd_script.specs.Reader.{onto, machine_at, done, one}
 use Rattle.pd_script.specs.TokenReading.{symbol_at}
 use Rattle.pd_script.specs.EventReading.{arguments_at, no_arguments_at}
@@ -48,9 +48,9 @@ one_of true x y h g = h
 one_of false x y h g = g
 
 pub is_empty-extended_builder : (d : ArgumentBuilder) (t : Item) → is_empty (extended_builder d t) ≡ false
-is_empty-extended_builder argument_builder.Empty t = one_of (is_any_int t) _ _ refl (one_of (is_word t) _ _ refl (one_of (is_symbol 91 t) _ _ refl refl))
+is_empty-extended_builder argument_builder.Empty t = one_of (is_int_of_any_size t) _ _ refl (one_of (is_word t) _ _ refl (one_of (is_symbol 91 t) _ _ refl refl))
 is_empty-extended_builder (argument_builder.Single a) t = refl
-is_empty-extended_builder argument_builder.Opened t = one_of (is_any_int t) _ _ refl refl
+is_empty-extended_builder argument_builder.Opened t = one_of (is_int_of_any_size t) _ _ refl refl
 is_empty-extended_builder (argument_builder.Numbered n) t = one_of (is_symbol 93 t) _ _ refl refl
 is_empty-extended_builder (argument_builder.Element n) t = refl
 is_empty-extended_builder argument_builder.Mixed t = refl

@@ -4,7 +4,7 @@ use Rattle.std.specs.Prelude.{◌⊎◌}
 use Rattle.pd_lex.specs.Tokens.{Item, lexeme, ending, bad}
 use Rattle.std.specs.List.{list_all}
 use Rattle.std.proofs.lemmas.List.Folds.{list_all-append}
-use Rattle.pd_script.specs.Items.{is_symbol, is_symbol_kind, is_any_int, is_word, next_is}
+use Rattle.pd_script.specs.Items.{is_symbol, is_symbol_kind, is_int_of_any_size, is_word, next_is}
 use Rattle.pd_script.specs.Reader.{Reader, stuck, ends, goes, moved, machine_at}
 use Rattle.pd_script.specs.declared.argument_builder.ArgumentBuilder.{ArgumentBuilder}
 use Rattle.pd_script.specs.declared.argument_builder.ArgumentBuilder.TheVariants as argument_builder
@@ -32,7 +32,7 @@ unfolding builder_after
 mixed [] = refl
 mixed (t ∷ ts) = mixed ts
 
-one_item : (t : Item) (i w b : Bool) → is_any_int t ≡ i → is_word t ≡ w → is_symbol 91 t ≡ b → built_argument (single_token_builder t) ≡ argument_of (t ∷ [])
+one_item : (t : Item) (i w b : Bool) → is_int_of_any_size t ≡ i → is_word t ≡ w → is_symbol 91 t ≡ b → built_argument (single_token_builder t) ≡ argument_of (t ∷ [])
 one_item t true w b hi hw hb = rw hi refl
 one_item t false true b hi hw hb = rw (hi, hw) refl
 one_item t false false true hi hw hb = rw (hi, hw, hb) refl
@@ -42,42 +42,42 @@ opens : (t : Item) → is_symbol 91 t ≡ true → single_token_builder t ≡ ar
 opens t h = rw (symbol_no_int 91 t h, symbol_no_word 91 t h, h) refl
 
 -- after a token that is no `[` an argument is none of the short forms
-no_longer : (t u : Item) (i w : Bool) → is_any_int t ≡ i → is_word t ≡ w → is_symbol 91 t ≡ false → extended_builder (single_token_builder t) u ≡ argument_builder.Mixed
+no_longer : (t u : Item) (i w : Bool) → is_int_of_any_size t ≡ i → is_word t ≡ w → is_symbol 91 t ≡ false → extended_builder (single_token_builder t) u ≡ argument_builder.Mixed
 no_longer t u true w hi hw h = rw hi refl
 no_longer t u false true hi hw h = rw (hi, hw) refl
 no_longer t u false false hi hw h = rw (hi, hw, h) refl
 
 no_longer_at : (t u : Item) → is_symbol 91 t ≡ false → extended_builder (single_token_builder t) u ≡ argument_builder.Mixed
-no_longer_at t u h = no_longer t u (is_any_int t) (is_word t) refl refl h
+no_longer_at t u h = no_longer t u (is_int_of_any_size t) (is_word t) refl refl h
 
-two_items : (t u : Item) (b i : Bool) → is_symbol 91 t ≡ b → is_any_int u ≡ i → built_argument (extended_builder (single_token_builder t) u) ≡ arguments.Other
+two_items : (t u : Item) (b i : Bool) → is_symbol 91 t ≡ b → is_int_of_any_size u ≡ i → built_argument (extended_builder (single_token_builder t) u) ≡ arguments.Other
 two_items t u true true h hi = rw (opens t h, hi) refl
 two_items t u true false h hi = rw (opens t h, hi) refl
 two_items t u false i h hi = rw (no_longer_at t u h) refl
 
 -- after `[`
-element : (o t c : Item) (i s : Bool) → is_symbol 91 o ≡ true → is_any_int t ≡ i → is_symbol 93 c ≡ s → built_argument (extended_builder (extended_builder argument_builder.Opened t) c) ≡ argument_of (o ∷ t ∷ c ∷ [])
+element : (o t c : Item) (i s : Bool) → is_symbol 91 o ≡ true → is_int_of_any_size t ≡ i → is_symbol 93 c ≡ s → built_argument (extended_builder (extended_builder argument_builder.Opened t) c) ≡ argument_of (o ∷ t ∷ c ∷ [])
 element o t c true true ho hi hs = rw (ho, hi, hs) refl
 element o t c true false ho hi hs = rw (ho, hi, hs) refl
 element o t c false s ho hi hs = rw (ho, hi) refl
 
-no_element : (t c u : Item) (more : List Item) (i s : Bool) → is_any_int t ≡ i → is_symbol 93 c ≡ s → built_argument (builder_after (extended_builder (extended_builder (extended_builder argument_builder.Opened t) c) u) more) ≡ arguments.Other
+no_element : (t c u : Item) (more : List Item) (i s : Bool) → is_int_of_any_size t ≡ i → is_symbol 93 c ≡ s → built_argument (builder_after (extended_builder (extended_builder (extended_builder argument_builder.Opened t) c) u) more) ≡ arguments.Other
 no_element t c u more true true hi hs = rw (hi, hs) (mixed more)
 no_element t c u more true false hi hs = rw (hi, hs) (mixed more)
 no_element t c u more false s hi hs = rw hi (mixed more)
 
 three_items : (o t c : Item) (more : List Item) (b : Bool) → is_symbol 91 o ≡ b → built_argument (builder_after argument_builder.Empty (o ∷ t ∷ c ∷ more)) ≡ argument_of (o ∷ t ∷ c ∷ more)
 unfolding builder_after
-three_items o t c [] true h = rw (opens o h) (element o t c (is_any_int t) (is_symbol 93 c) h refl refl)
-three_items o t c (u ∷ more) true h = rw (opens o h) (no_element t c u more (is_any_int t) (is_symbol 93 c) refl refl)
+three_items o t c [] true h = rw (opens o h) (element o t c (is_int_of_any_size t) (is_symbol 93 c) h refl refl)
+three_items o t c (u ∷ more) true h = rw (opens o h) (no_element t c u more (is_int_of_any_size t) (is_symbol 93 c) refl refl)
 three_items o t c [] false h = rw (no_longer_at o t h, h) refl
 three_items o t c (u ∷ more) false h = rw (no_longer_at o t h) (mixed more)
 
 -- what was drafted is the argument that the items are
 drafted_is : (t : Item) (ts : List Item) → built_argument (builder_after argument_builder.Empty (t ∷ ts)) ≡ argument_of (t ∷ ts)
 unfolding builder_after
-drafted_is t [] = one_item t (is_any_int t) (is_word t) (is_symbol 91 t) refl refl refl
-drafted_is t (u ∷ []) = two_items t u (is_symbol 91 t) (is_any_int u) refl refl
+drafted_is t [] = one_item t (is_int_of_any_size t) (is_word t) (is_symbol 91 t) refl refl refl
+drafted_is t (u ∷ []) = two_items t u (is_symbol 91 t) (is_int_of_any_size u) refl refl
 drafted_is t (u ∷ c ∷ more) = three_items t u c more (is_symbol 91 t) refl
 
 is_empty-builder_after : (d : ArgumentBuilder) (ts : List Item) → is_empty d ≡ false → is_empty (builder_after d ts) ≡ false

@@ -10,7 +10,7 @@ use Rattle.pd_script.specs.Items.{is_end, starts_event, starts_event_or_end, nex
 use Rattle.pd_script.specs.Reader.{Read}
 use Rattle.pd_script.specs.EventReading.{next_line, event_at}
 use Rattle.pd_script.specs.Script.{found_in, followed, may_follow, with_event, at_end, in_front}
-use Rattle.pd_script.specs.Next.{next_place, lookahead_line_of, got, next_in}
+use Rattle.pd_script.specs.Next.{place_of_next_token_or_end, lookahead_line_of, got, next_in}
 use Rattle.pd_script.proofs.Laws.{ok, rest_is}
 use Rattle.pd_script.proofs.Apart.{or-right}
 
@@ -66,7 +66,7 @@ reaches : (ts : List Item) (e : Event) (after : Place) (lookahead_line : Option 
 unfolding next_in
 reaches ts e after lookahead_line rest h g =
     let start = starts ts e after lookahead_line (sym h) in
-    let made : Got e after lookahead_line ≡ Got e (next_place rest) (lookahead_line_of rest) = rw (start, g) at h in
+    let made : Got e after lookahead_line ≡ Got e (place_of_next_token_or_end rest) (lookahead_line_of rest) = rw (start, g) at h in
     cc
 
 if_follows : (b : Bool) (e : Event) (rest : List Item) → b ≡ true → ◌≡◌ {A = Read Event} (cond b (Ok (e, rest)) (Err rest)) (ok e rest)

@@ -5,8 +5,8 @@ use Rattle.std.proofs.lemmas.Bool.Decides.{nat_tests}
 use Rattle.pd_lex.specs.declared.token.TokenKind.{TokenKind}
 use Rattle.pd_lex.specs.declared.token.TokenKind.TheVariants as kinds
 use Rattle.pd_lex.specs.Tokens.{Item, lexeme, ending, bad, line_of}
-use Rattle.pd_script.specs.Items.{is_int, is_hex, is_num, is_num_from, is_dots, is_command, is_code, is_word, is_symbol, is_int_kind, is_hex_kind, is_num_kind, is_dots_kind, is_command_kind, is_code_kind, is_word_kind, is_symbol_kind, is_end, starts_event, starts_event_or_end, text_of}
-use Rattle.pd_script.specs.Values.{hex_number, microseconds, error_named, function_named}
+use Rattle.pd_script.specs.Items.{is_next_int_within_u32, is_next_hex_within_u32, is_num, is_num_from, is_dots, is_command, is_code, is_word, is_symbol, is_int_kind, is_hex_kind, is_num_kind, is_dots_kind, is_command_kind, is_code_kind, is_word_kind, is_symbol_kind, is_end, starts_event, starts_event_or_end, text_of}
+use Rattle.pd_script.specs.Values.{saturated_hex_number, microseconds, error_by_name_or_unknown, function_by_name_or_unknown}
 use Rattle.pd_script.specs.Reader.{done, one, when, machine_at}
 use Rattle.pd_script.specs.ArgumentReading.{note_move}
 use Rattle.pd_script.specs.TokenReading.{symbol_at, int_at, dots_at}
@@ -29,8 +29,8 @@ use Rattle.pd_script.proofs.NoteLaws.{IsInNote, Reads-in_note}
 use Rattle.pd_script.proofs.TokenLaws.{all, but, last, tail, symbol, int, dots, NoStart, goes_on_not, symbol_no_start}
 use Rattle.pd_script.proofs.PacketLaws.{Reads-packet}
 
-hex : Reads hex_at IsHex is_hex any
-hex = last (one is_hex) (λ t. hex_number (text_of t)) (token is_hex) is_hex any (Reads-one is_hex_kind is_hex (a_token kinds.Hex (48 ∷ 120 ∷ 48 ∷ [])) hex_kind refl refl)
+hex : Reads hex_at IsHex is_next_hex_within_u32 any
+hex = last (one is_next_hex_within_u32) (λ t. saturated_hex_number (text_of t)) (token is_next_hex_within_u32) is_next_hex_within_u32 any (Reads-one is_hex_kind is_next_hex_within_u32 (a_token kinds.Hex (48 ∷ 120 ∷ 48 ∷ [])) hex_kind refl refl)
 
 num : Reads num_at IsNum is_num any
 unfolding microseconds
@@ -61,10 +61,10 @@ num_small : (ts : List Item) (v : ℕ × ℕ) (rest : List Item) → IsNum v ts 
 num_small ts v rest h = subst (λ (x : ℕ × ℕ). x.1 ≤ 4294967295999999) h.3.0 (num_bound h.0 h.2.1)
 
 function : Reads function_at IsFunction is_word any
-function = last (one is_word) (λ t. function_named (text_of t)) (token is_word) is_word any (Reads-one is_word_kind is_word a_word word_kind refl refl)
+function = last (one is_word) (λ t. function_by_name_or_unknown (text_of t)) (token is_word) is_word any (Reads-one is_word_kind is_word a_word word_kind refl refl)
 
 error_name : Reads error_at IsErrorName is_word any
-error_name = last (one is_word) (λ t. error_named (text_of t)) (token is_word) is_word any (Reads-one is_word_kind is_word a_word word_kind refl refl)
+error_name = last (one is_word) (λ t. error_by_name_or_unknown (text_of t)) (token is_word) is_word any (Reads-one is_word_kind is_word a_word word_kind refl refl)
 
 -- ---- times
 
@@ -162,49 +162,49 @@ goes_on_no_word t h = not-false (is_word t) (goes_on_not is_word word_no_start t
 
 -- ---- results
 
-hex_no_int : (t : Item) → is_hex t ≡ true → is_int t ≡ false
-hex_no_int = apart is_hex_kind is_int_kind is_hex is_int refl hex_kind int_kind
+hex_no_int : (t : Item) → is_next_hex_within_u32 t ≡ true → is_next_int_within_u32 t ≡ false
+hex_no_int = apart is_hex_kind is_int_kind is_next_hex_within_u32 is_next_int_within_u32 refl hex_kind int_kind
 
-minus_no_int : (t : Item) → is_symbol 45 t ≡ true → is_int t ≡ false
-minus_no_int = apart is_symbol_kind is_int_kind (is_symbol 45) is_int refl (symbol_kind 45) int_kind
+minus_no_int : (t : Item) → is_symbol 45 t ≡ true → is_next_int_within_u32 t ≡ false
+minus_no_int = apart is_symbol_kind is_int_kind (is_symbol 45) is_next_int_within_u32 refl (symbol_kind 45) int_kind
 
-minus_no_hex : (t : Item) → is_symbol 45 t ≡ true → is_hex t ≡ false
-minus_no_hex = apart is_symbol_kind is_hex_kind (is_symbol 45) is_hex refl (symbol_kind 45) hex_kind
+minus_no_hex : (t : Item) → is_symbol 45 t ≡ true → is_next_hex_within_u32 t ≡ false
+minus_no_hex = apart is_symbol_kind is_hex_kind (is_symbol 45) is_next_hex_within_u32 refl (symbol_kind 45) hex_kind
 
 abbrev pub starts_other_expected_result : Item → Bool
-starts_other_expected_result t = is_hex t || is_symbol 45 t
+starts_other_expected_result t = is_next_hex_within_u32 t || is_symbol 45 t
 
 abbrev pub starts_expected_result : Item → Bool
-starts_expected_result t = is_int t || starts_other_expected_result t
+starts_expected_result t = is_next_int_within_u32 t || starts_other_expected_result t
 
 Reads-negative : Reads negative_at IsNegative (is_symbol 45) (but is_word)
 Reads-negative =
-    Reads-bind (symbol_at 45) _ (IsSymbol "-") _ (is_symbol 45) any is_int (but is_word) (symbol 45 refl refl)
-    (λ line. Reads-bind int_at _ IsInt _ is_int any any (but is_word) int
+    Reads-bind (symbol_at 45) _ (IsSymbol "-") _ (is_symbol 45) any is_next_int_within_u32 (but is_word) (symbol 45 refl refl)
+    (λ line. Reads-bind int_at _ IsInt _ is_next_int_within_u32 any any (but is_word) int
     (λ n. tail is_word (named_error_at n) (in_turn IsErrorName (λ name. made (expected_results.Negative n (Some name)))) (expected_results.Negative n None)
     (last error_at (λ name. expected_results.Negative n (Some name)) IsErrorName is_word (but is_word) error_name)
     (λ w rest e. absurd cc))
     (all any))
-    (all is_int)
+    (all is_next_int_within_u32)
 
 pub Reads-expected_result : Reads expected_result_at IsExpectedResult starts_expected_result (but is_word)
 unfolding expected_result_at IsExpectedResult
 Reads-expected_result =
-    Reads-when is_int whole_at (when is_hex hexadecimal_at negative_at) IsWhole (either IsHexadecimal IsNegative) is_int starts_other_expected_result starts_expected_result (but is_word)
-    (last int_at (λ n. expected_results.Int n) IsInt is_int (but is_word) int)
-    (Reads-when is_hex hexadecimal_at negative_at IsHexadecimal IsNegative is_hex (is_symbol 45) starts_other_expected_result (but is_word)
-    (last hex_at (λ n. expected_results.Hex n) IsHex is_hex (but is_word) hex)
+    Reads-when is_next_int_within_u32 whole_at (when is_next_hex_within_u32 hexadecimal_at negative_at) IsWhole (either IsHexadecimal IsNegative) is_next_int_within_u32 starts_other_expected_result starts_expected_result (but is_word)
+    (last int_at (λ n. expected_results.Int n) IsInt is_next_int_within_u32 (but is_word) int)
+    (Reads-when is_next_hex_within_u32 hexadecimal_at negative_at IsHexadecimal IsNegative is_next_hex_within_u32 (is_symbol 45) starts_other_expected_result (but is_word)
+    (last hex_at (λ n. expected_results.Hex n) IsHex is_next_hex_within_u32 (but is_word) hex)
     Reads-negative
     (λ t h. h)
     minus_no_hex
     (λ w rest e. absurd cc)
-    (λ t h. or-left (is_hex t) (is_symbol 45 t) h)
-    (λ t h. or-right (is_hex t) (is_symbol 45 t) h))
+    (λ t h. or-left (is_next_hex_within_u32 t) (is_symbol 45 t) h)
+    (λ t h. or-right (is_next_hex_within_u32 t) (is_symbol 45 t) h))
     (λ t h. h)
-    (λ t h. or-elim-no (is_hex t) (is_symbol 45 t) (is_int t) (hex_no_int t) (minus_no_int t) h)
+    (λ t h. or-elim-no (is_next_hex_within_u32 t) (is_symbol 45 t) (is_next_int_within_u32 t) (hex_no_int t) (minus_no_int t) h)
     (λ w rest e. absurd cc)
-    (λ t h. or-left (is_int t) (starts_other_expected_result t) h)
-    (λ t h. or-right (is_int t) (starts_other_expected_result t) h)
+    (λ t h. or-left (is_next_int_within_u32 t) (starts_other_expected_result t) h)
+    (λ t h. or-right (is_next_int_within_u32 t) (starts_other_expected_result t) h)
 
 -- ---- calls
 

@@ -3,7 +3,7 @@ use Rattle.std.proofs.Common.{◌≡◌, ℕ, ◌<◌, Bool, true, false, List, 
 use Rattle.std.specs.Prelude.{take, fold}
 use Rattle.std.proofs.lemmas.List.{append-nil}
 use Rattle.std.specs.List.{list_all}
-use Rattle.pd_text.specs.Text.{is_line}
+use Rattle.pd_text.specs.Text.{has_no_newline}
 use Rattle.pd_lex.specs.declared.token.Place.{Place}
 use Rattle.pd_lex.specs.declared.token.Token.{Token}
 use Rattle.pd_lex.specs.Places.{first_place, between}
@@ -69,11 +69,11 @@ module _ (lines : List (List ℕ)) (t : Token) (h : stays_in_line t.kind ≡ tru
   unfolding lexeme_of
   same_given = alike (λ (i : Item). given is_header (λ u. header_item u) i) t.kind (between lines t.from t.to) t.text.now t.from (λ stays. sym (h stays)) refl refl refl
 
-  there : (place : Place) → list_all is_line lines ≡ true → (p : Place) → IsTokenAt lines p t → place_after_item place (lexeme (lexeme_of lines t)) ≡ t.to
+  there : (place : Place) → list_all has_no_newline lines ≡ true → (p : Place) → IsTokenAt lines p t → place_after_item place (lexeme (lexeme_of lines t)) ≡ t.to
   unfolding lexeme_of
   there place plain p at = token_after lines plain p t at
 
-  pub header_item_there : list_all is_line lines ≡ true → (p : Place) → IsTokenAt lines p t → items lines p ≡ lexeme (lexeme_of lines t) ∷ items lines t.to → (item : HeaderItem) → given is_header (λ u. header_item u) (shown t) ≡ Some item → IsItemAt lines p item t.to
+  pub header_item_there : list_all has_no_newline lines ≡ true → (p : Place) → IsTokenAt lines p t → items lines p ≡ lexeme (lexeme_of lines t) ∷ items lines t.to → (item : HeaderItem) → given is_header (λ u. header_item u) (shown t) ≡ Some item → IsItemAt lines p item t.to
   header_item_there plain p at next item e =
       let G = is_given (lexeme (lexeme_of lines t)) item (same_given ∙ e) in
       record { token = lexeme (lexeme_of lines t); next = next; test = G.0; value = G.1; end = there p plain p at }

@@ -2,7 +2,7 @@
 use Rattle.std.proofs.Common.{◌≡◌, ℕ, Bool, true, false, cond, List, [], ◌∷◌, ◌++◌, Option, Ok, Err, refl, sym, ap, subst, ◌∙◌}
 use Rattle.std.proofs.lemmas.List.{append-nil}
 use Rattle.std.specs.List.{list_all}
-use Rattle.pd_text.specs.Text.{is_line}
+use Rattle.pd_text.specs.Text.{has_no_newline}
 use Rattle.pd_lex.specs.declared.token.Place.{Place}
 use Rattle.pd_lex.specs.Places.{place_after}
 use Rattle.pd_lex.specs.Tokens.{Item, lexeme, ending, bad, line_of}
@@ -17,7 +17,7 @@ use Rattle.pd_script.specs.Reader.{Read}
 use Rattle.pd_script.specs.EventReading.{next_line, event_at}
 use Rattle.pd_script.specs.Script.{followed}
 use Rattle.pd_script.specs.Laws.{ItemsStandThere}
-use Rattle.pd_script.specs.Next.{place_of, next_place, lookahead_line_of, got, next_in, GoesOn, IsEventFault, IsNextEvent}
+use Rattle.pd_script.specs.Next.{place_of, place_of_next_token_or_end, lookahead_line_of, got, next_in, GoesOn, IsEventFault, IsNextEvent}
 use Rattle.pd_script.proofs.Laws.{Stops, ok, rest_is}
 use Rattle.pd_script.proofs.Apart.{is_lexeme, and-left, and-right}
 use Rattle.pd_script.proofs.GrammarLaws.{Reads-event, end_no_start}
@@ -28,7 +28,7 @@ use Rattle.pd_script.proofs.Placed.{is_bad, stand_there}
 
 -- ---- what is left of a text's items stands where its first item says
 
-module _ (lines : List (List ℕ)) (plain : list_all is_line lines ≡ true) where
+module _ (lines : List (List ℕ)) (plain : list_all has_no_newline lines ≡ true) where
   nothing_left_of : (front : List Item) (t : Item) (rest : List Item) → front ++ t ∷ rest ≡ [] → ⊥
   nothing_left_of [] t rest e = absurd cc
   nothing_left_of (x ∷ front) t rest e = absurd cc
@@ -47,7 +47,7 @@ record IsGot (ts : List Item) (event : Event) (after : Place) (lookahead_line : 
   rest : List Item
   read : event_at ts ≡ ok event rest
   follows : next_is starts_event_or_end rest ≡ true
-  place : after ≡ next_place rest
+  place : after ≡ place_of_next_token_or_end rest
   reached : lookahead_line ≡ lookahead_line_of rest
 
 got_by : (ts : List Item) (r : Read Event) (event : Event) (after : Place) (lookahead_line : Option ℕ) → event_at ts ≡ r → got (followed starts_event_or_end r) ≡ Got event after lookahead_line → IsGot ts event after lookahead_line
@@ -56,7 +56,7 @@ got_by ts (Ok x) event after lookahead_line e g = by_test (next_is starts_event_
   where
     by_test : (b : Bool) → next_is starts_event_or_end x.1 ≡ b → IsGot ts event after lookahead_line
     by_test true h =
-        let made : Got x.0 (next_place x.1) (lookahead_line_of x.1) ≡ Got event after lookahead_line = rw h at g in
+        let made : Got x.0 (place_of_next_token_or_end x.1) (lookahead_line_of x.1) ≡ Got event after lookahead_line = rw h at g in
         let value : x.0 ≡ event = cc in
         record { rest = x.1; read = e ∙ ap (λ (v : Event). ok v x.1) value; follows = h; place = cc; reached = cc }
     by_test false h = absurd (let made = rw h at g in cc)
@@ -81,8 +81,8 @@ no_bad (bad line) h = absurd cc
 pub item_stands : ItemsGoOn → ItemsStandThere
 item_stands law lines p front t rest plain e h = left_stands lines plain law front p t rest e (no_bad t h)
 
-module _ (lines : List (List ℕ)) (plain : list_all is_line lines ≡ true) (law : ItemsGoOn) where
-  stands_at : (p : Place) (front rest : List Item) → items lines p ≡ front ++ rest → next_is starts_event_or_end rest ≡ true → items lines (next_place rest) ≡ rest
+module _ (lines : List (List ℕ)) (plain : list_all has_no_newline lines ≡ true) (law : ItemsGoOn) where
+  stands_at : (p : Place) (front rest : List Item) → items lines p ≡ front ++ rest → next_is starts_event_or_end rest ≡ true → items lines (place_of_next_token_or_end rest) ≡ rest
   stands_at p front [] e h = absurd cc
   stands_at p front (t ∷ rest) e h = left_stands lines plain law front p t rest e (no_bad t h)
 
@@ -243,7 +243,7 @@ is_over ts e = by_test (next_is starts_event ts) refl
 
 -- ---- the next event, as the grammar gives it
 
-pub next_is_so : (lines : List (List ℕ)) → list_all is_line lines ≡ true → ItemsGoOn → (p : Place) (next : NextEvent) → next ≡ next_in (items lines p) → IsNextEvent lines p next
+pub next_is_so : (lines : List (List ℕ)) → list_all has_no_newline lines ≡ true → ItemsGoOn → (p : Place) (next : NextEvent) → next ≡ next_in (items lines p) → IsNextEvent lines p next
 next_is_so lines plain law p (Got event after lookahead_line) e =
     let g = is_got (items lines p) event after lookahead_line (sym e) in
     let there : items lines after ≡ g.rest = got_stands lines plain law p event after lookahead_line g in

@@ -12,8 +12,8 @@ use Rattle.std.proofs.lemmas.Bool.Decides.{nat_tests}
 use Rattle.pd_lex.specs.declared.token.TokenKind.TheVariants as kinds
 use Rattle.pd_lex.specs.Octets.{is_digit}
 use Rattle.pd_lex.specs.Tokens.{Item, lexeme, ending, bad}
-use Rattle.pd_script.specs.Items.{is_token, is_int, is_int_from, is_int_of, is_named, is_flags, is_option, is_num, is_dots, is_symbol, is_int_kind, is_num_kind, is_dots_kind, is_word_kind, is_symbol_kind, is_digits, is_small, starts_event_or_end, text_of}
-use Rattle.pd_script.specs.Values.{number, flags_of, with_ack, option_named}
+use Rattle.pd_script.specs.Items.{is_token, is_next_int_within_u32, is_int_from, is_int_of, is_named, is_flags, is_option, is_num, is_dots, is_symbol, is_int_kind, is_num_kind, is_dots_kind, is_word_kind, is_symbol_kind, is_nonempty_digits, is_small, starts_event_or_end, text_of}
+use Rattle.pd_script.specs.Values.{number, flags_of, with_ack, find_option_by_name}
 use Rattle.pd_script.specs.Reader.{Reader, done, one, when, onto}
 use Rattle.pd_script.specs.TokenReading.{symbol_at, int_at, dots_at}
 use Rattle.pd_script.specs.PacketReading.{int_from_at, int_of_at, named_at, letters_at, option_name_at, repeated_at, no_flags_at, point_at, lettered_at, flags_at, octets_at, numbered_at, ack_at, win_at, block_at, blocks_at, timestamp_at, option_rest_at, option_at, next_option_at, some_options_at, listed_at, unlisted_at, any_options_at, list_at, inside_options_at, bracketed_options_at, options_at, packet_at}
@@ -67,11 +67,11 @@ letters : Reads letters_at IsLetters is_flags any
 letters = last (one is_flags) (λ t. flags_of (text_of t)) (token is_flags) is_flags any (Reads-one is_word_kind is_flags (a_token kinds.Word (83 ∷ [])) flags_kind refl refl)
 
 option_name : Reads option_name_at IsOptionName is_option any
-unfolding option_named
-option_name = last (one is_option) (λ t. unwrap_or (option_named (text_of t)) names.Nop) (token is_option) is_option any (Reads-one is_word_kind is_option (a_token kinds.Word (codes "nop")) option_kind refl refl)
+unfolding find_option_by_name
+option_name = last (one is_option) (λ t. unwrap_or (find_option_by_name (text_of t)) names.Nop) (token is_option) is_option any (Reads-one is_word_kind is_option (a_token kinds.Word (codes "nop")) option_kind refl refl)
 
 int_from_kind : (least : ℕ) → IsOf is_int_kind (is_int_from least)
-int_from_kind least = record { kind = λ x h. int_kind.kind x (and-left (is_int x) _ h) }
+int_from_kind least = record { kind = λ x h. int_kind.kind x (and-left (is_next_int_within_u32 x) _ h) }
 
 int_from : (least : ℕ) → least ≤ 4294967295 → Reads (int_from_at least) (IsIntFrom least) (is_int_from least) any
 int_from least h =
@@ -95,17 +95,17 @@ same_is : (n : ℕ) → (n == n) ≡ true
 same_is n = grind (arith, nat_tests)
 
 int_of_kind : (n : ℕ) → IsOf is_int_kind (is_int_of n)
-int_of_kind n = record { kind = λ x h. int_kind.kind x (and-left (is_int x) _ h) }
+int_of_kind n = record { kind = λ x h. int_kind.kind x (and-left (is_next_int_within_u32 x) _ h) }
 
 int_of : (n : ℕ) → n ≤ 4294967295 → Reads (int_of_at n) (IsIntOf n) (is_int_of n) any
 int_of n h =
     let D = decimal_is_IsNumeral n (omega arith) in
     let value : digits_value 10 (decimal n) ≡ n = D.1 in
     let passes : is_int_of n (a_token kinds.Int (decimal n)) ≡ true = rw (value, small_is n h, same_is n) refl in
-    let plain : is_digits (decimal n) ≡ true = rw (some_digits (length (decimal n)) D.0.0, digits_are (decimal n) D.0.1) refl in
+    let plain : is_nonempty_digits (decimal n) ≡ true = rw (some_digits (length (decimal n)) D.0.0, digits_are (decimal n) D.0.1) refl in
     last (one (is_int_of n)) (λ t. number (text_of t)) (token (is_int_of n)) (is_int_of n) any (Reads-one is_int_kind (is_int_of n) (a_token kinds.Int (decimal n)) (int_of_kind n) passes plain)
 
-int_bound : (t : Item) → is_int t ≡ true → number (text_of t) ≤ 4294967295
+int_bound : (t : Item) → is_next_int_within_u32 t ≡ true → number (text_of t) ≤ 4294967295
 int_bound (lexeme x) h =
     let small : nat_le (number x.text) 4294967295 ≡ true = and-right (is_int_kind x.kind) _ h in
     grind (arith, nat_tests)
@@ -116,7 +116,7 @@ int_small : (ts : List Item) (v : ℕ) (rest : List Item) → IsInt v ts rest �
 int_small ts v rest h = subst (λ (x : ℕ). x ≤ 4294967295) h.3.0 (int_bound h.0 h.2.1)
 
 int_from_small : (least : ℕ) (ts : List Item) (v : ℕ) (rest : List Item) → IsIntFrom least v ts rest → v ≤ 4294967295
-int_from_small least ts v rest h = subst (λ (x : ℕ). x ≤ 4294967295) h.3.0 (int_bound h.0 (and-left (is_int h.0) _ h.2.1))
+int_from_small least ts v rest h = subst (λ (x : ℕ). x ≤ 4294967295) h.3.0 (int_bound h.0 (and-left (is_next_int_within_u32 h.0) _ h.2.1))
 
 -- ---- flags
 
@@ -161,15 +161,15 @@ Reads-flags =
     (all (is_symbol 45))
     (all starts_flags)
 
-int_no_point : (t : Item) → is_int t ≡ true → but_point t ≡ true
-int_no_point t h = not-false (is_symbol 46 t) (apart is_int_kind is_symbol_kind is_int (is_symbol 46) refl int_kind (symbol_kind 46) t h)
+int_no_point : (t : Item) → is_next_int_within_u32 t ≡ true → but_point t ≡ true
+int_no_point t h = not-false (is_symbol 46 t) (apart is_int_kind is_symbol_kind is_next_int_within_u32 (is_symbol 46) refl int_kind (symbol_kind 46) t h)
 
 -- ---- numbers
 
-Reads-octets : Reads octets_at IsOctets is_int any
+Reads-octets : Reads octets_at IsOctets is_next_int_within_u32 any
 unfolding octets_at IsOctets
 Reads-octets =
-    Reads-bind_if int_at _ IsInt _ (λ start. start ≤ 4294967295) is_int any (is_symbol 58) any int_small int
+    Reads-bind_if int_at _ IsInt _ (λ start. start ≤ 4294967295) is_next_int_within_u32 any (is_symbol 58) any int_small int
     (λ start small. Reads-bind (symbol_at 58) _ (IsSymbol ":") _ (is_symbol 58) any (is_int_from start) any (symbol 58 refl refl)
     (λ colon. Reads-bind_if (int_from_at start) _ (IsIntFrom start) _ (λ end. end ≤ 4294967295) (is_int_from start) any (is_symbol 40) any (int_from_small start) (int_from start small)
     (λ end bound. Reads-bind (symbol_at 40) _ (IsSymbol "(") _ (is_symbol 40) any (is_int_of (end - start)) any (symbol 40 refl refl)
@@ -183,9 +183,9 @@ Reads-octets =
 
 Reads-numbered : (name : List ℕ) → Reads (named_at name) (IsNamed name) (is_named name) any → Reads (numbered_at name) (IsNumbered name) (is_named name) any
 Reads-numbered name word =
-    Reads-bind (named_at name) _ (IsNamed name) _ (is_named name) any is_int any word
-    (λ line. last int_at (λ n. Some n) IsInt is_int any int)
-    (all is_int)
+    Reads-bind (named_at name) _ (IsNamed name) _ (is_named name) any is_next_int_within_u32 any word
+    (λ line. last int_at (λ n. Some n) IsInt is_next_int_within_u32 any int)
+    (all is_next_int_within_u32)
 
 abbrev ack_name : List ℕ
 ack_name = codes "ack"
@@ -255,12 +255,12 @@ int_less v ts rest h = omega (arith, ap length h.2.0, ap length h.3.1)
 not_longer : {A : Type 0} {p : Reader A} {P : Spelling A} {f s : Item → Bool} (v : A) (ts rest : List Item) → Reads p P f s → P v ts rest → length rest ≤ length ts
 not_longer v ts rest r h = let T = r.takes ts v rest h in omega (arith, ap length T.1, length-append T.0 rest)
 
-Reads-block : Reads block_at IsBlock is_int any
+Reads-block : Reads block_at IsBlock is_next_int_within_u32 any
 Reads-block =
-    Reads-bind int_at _ IsInt _ is_int any (is_symbol 58) any int
-    (λ left. Reads-bind (symbol_at 58) _ (IsSymbol ":") _ (is_symbol 58) any is_int any (symbol 58 refl refl)
-    (λ colon. last int_at (λ right. record { left = left; right = right }) IsInt is_int any int)
-    (all is_int))
+    Reads-bind int_at _ IsInt _ is_next_int_within_u32 any (is_symbol 58) any int
+    (λ left. Reads-bind (symbol_at 58) _ (IsSymbol ":") _ (is_symbol 58) any is_next_int_within_u32 any (symbol 58 refl refl)
+    (λ colon. last int_at (λ right. record { left = left; right = right }) IsInt is_next_int_within_u32 any int)
+    (all is_next_int_within_u32))
     (all (is_symbol 58))
 
 pub block_less : (ts : List Item) (v : SackBlock) (rest : List Item) → block_at ts ≡ ok v rest → length rest < length ts
@@ -273,43 +273,43 @@ block_less ts v rest e =
     omega arith
 
 abbrev but_int : Item → Bool
-but_int = but is_int
+but_int = but is_next_int_within_u32
 
 abbrev follows_block : Item → Bool
-follows_block t = is_int t || but_int t
+follows_block t = is_next_int_within_u32 t || but_int t
 
-Reads-blocks : Reads blocks_at AreBlocks is_int but_int
+Reads-blocks : Reads blocks_at AreBlocks is_next_int_within_u32 but_int
 unfolding blocks_at AreBlocks
 Reads-blocks =
-    Reads-bind block_at _ IsBlock _ is_int any follows_block but_int Reads-block
-    (λ b. Reads-bind (repeated_at is_int block_at) (λ bs. done (b ∷ bs)) (Repeats IsBlock) (λ bs. made (b ∷ bs)) follows_block but_int but_int but_int
-    (Reads-repeated is_int block_at block_less IsBlock any but_int Reads-block (λ t h. not-true (is_int t) h) (all follows_block))
+    Reads-bind block_at _ IsBlock _ is_next_int_within_u32 any follows_block but_int Reads-block
+    (λ b. Reads-bind (repeated_at is_next_int_within_u32 block_at) (λ bs. done (b ∷ bs)) (Repeats IsBlock) (λ bs. made (b ∷ bs)) follows_block but_int but_int but_int
+    (Reads-repeated is_next_int_within_u32 block_at block_less IsBlock any but_int Reads-block (λ t h. not-true (is_next_int_within_u32 t) h) (all follows_block))
     (λ bs. Reads-done (b ∷ bs) but_int)
     (λ t h. h))
     (all follows_block)
 
 Reads-timestamp : Reads timestamp_at IsTimestamp (is_named (codes "val")) but_int
 Reads-timestamp =
-    Reads-bind (named_at (codes "val")) _ (IsNamed (codes "val")) _ (is_named (codes "val")) any is_int but_int (named (codes "val") refl refl)
-    (λ val. Reads-bind int_at _ IsInt _ is_int any (is_named (codes "ecr")) but_int int
-    (λ v. Reads-bind (named_at (codes "ecr")) _ (IsNamed (codes "ecr")) _ (is_named (codes "ecr")) any is_int but_int (named (codes "ecr") refl refl)
-    (λ ecr. last int_at (λ e. options.Timestamp v e) IsInt is_int but_int int)
-    (all is_int))
+    Reads-bind (named_at (codes "val")) _ (IsNamed (codes "val")) _ (is_named (codes "val")) any is_next_int_within_u32 but_int (named (codes "val") refl refl)
+    (λ val. Reads-bind int_at _ IsInt _ is_next_int_within_u32 any (is_named (codes "ecr")) but_int int
+    (λ v. Reads-bind (named_at (codes "ecr")) _ (IsNamed (codes "ecr")) _ (is_named (codes "ecr")) any is_next_int_within_u32 but_int (named (codes "ecr") refl refl)
+    (λ ecr. last int_at (λ e. options.Timestamp v e) IsInt is_next_int_within_u32 but_int int)
+    (all is_next_int_within_u32))
     (all (is_named (codes "ecr"))))
-    (all is_int)
+    (all is_next_int_within_u32)
 
 any_done : {A : Type 0} (x : A) → Reads (done x) (made x) any but_int
 any_done x = Reads-widen but_int any (Reads-done x but_int) (all but_int)
 
 Reads-option_rest : (name : OptionName) → Reads (option_rest_at name) (IsOptionRest name) any but_int
 unfolding option_rest_at IsOptionRest
-Reads-option_rest names.Mss = Reads-widen is_int any (last int_at (λ n. options.Mss n) IsInt is_int but_int int) (all is_int)
-Reads-option_rest names.Wscale = Reads-widen is_int any (last int_at (λ n. options.Wscale n) IsInt is_int but_int int) (all is_int)
+Reads-option_rest names.Mss = Reads-widen is_next_int_within_u32 any (last int_at (λ n. options.Mss n) IsInt is_next_int_within_u32 but_int int) (all is_next_int_within_u32)
+Reads-option_rest names.Wscale = Reads-widen is_next_int_within_u32 any (last int_at (λ n. options.Wscale n) IsInt is_next_int_within_u32 but_int int) (all is_next_int_within_u32)
 Reads-option_rest names.SackOk = any_done options.SackOk
 Reads-option_rest names.Nop = any_done options.Nop
 Reads-option_rest names.Eol = any_done options.Eol
 Reads-option_rest names.Timestamp = Reads-widen (is_named (codes "val")) any Reads-timestamp (all (is_named (codes "val")))
-Reads-option_rest names.Sack = Reads-widen is_int any (Reads-bind blocks_at (λ bs. done (options.Sack bs)) AreBlocks (λ bs. made (options.Sack bs)) is_int but_int but_int but_int Reads-blocks (λ bs. Reads-done (options.Sack bs) but_int) (λ t h. h)) (all is_int)
+Reads-option_rest names.Sack = Reads-widen is_next_int_within_u32 any (Reads-bind blocks_at (λ bs. done (options.Sack bs)) AreBlocks (λ bs. made (options.Sack bs)) is_next_int_within_u32 but_int but_int but_int Reads-blocks (λ bs. Reads-done (options.Sack bs) but_int) (λ t h. h)) (all is_next_int_within_u32)
 
 Reads-option : Reads option_at IsOption is_option but_int
 unfolding option_at IsOption
@@ -329,7 +329,7 @@ abbrev follows_option : Item → Bool
 follows_option t = is_symbol 44 t || is_symbol 62 t
 
 symbol_no_int : (octet : ℕ) (t : Item) → is_symbol octet t ≡ true → but_int t ≡ true
-symbol_no_int octet t h = not-false (is_int t) (apart is_symbol_kind is_int_kind (is_symbol octet) is_int refl (symbol_kind octet) int_kind t h)
+symbol_no_int octet t h = not-false (is_next_int_within_u32 t) (apart is_symbol_kind is_int_kind (is_symbol octet) is_next_int_within_u32 refl (symbol_kind octet) int_kind t h)
 
 option_then : (t : Item) → follows_option t ≡ true → but_int t ≡ true
 option_then t h = or-elim (is_symbol 44 t) (is_symbol 62 t) (but_int t) (symbol_no_int 44 t) (symbol_no_int 62 t) h
@@ -395,8 +395,8 @@ Reads-options inbound = Reads-optional (is_symbol 60) starts_event_or_end (brack
 pub Reads-packet : (inbound : Bool) → Reads (packet_at inbound) (IsPacket inbound) any starts_event_or_end
 unfolding packet_at IsPacket
 Reads-packet inbound =
-    Reads-bind flags_at _ IsFlags _ any but_point is_int starts_event_or_end Reads-flags
-    (λ flags. Reads-bind octets_at _ IsOctets _ is_int any (starts_ack inbound) starts_event_or_end Reads-octets
+    Reads-bind flags_at _ IsFlags _ any but_point is_next_int_within_u32 starts_event_or_end Reads-flags
+    (λ flags. Reads-bind octets_at _ IsOctets _ is_next_int_within_u32 any (starts_ack inbound) starts_event_or_end Reads-octets
     (λ octets. Reads-bind ack_at _ IsAck _ (starts_ack inbound) (follows_ack inbound) (follows_ack inbound) starts_event_or_end (Reads-ack inbound)
     (λ ack. Reads-bind (win_at inbound) _ (IsWin inbound) _ (follows_ack inbound) follows_win follows_win starts_event_or_end (Reads-win inbound)
     (λ win. Reads-bind (options_at inbound) (λ os. done _) (IsOptions inbound) (λ os. made _) follows_win starts_event_or_end starts_event_or_end starts_event_or_end (Reads-options inbound) (λ os. Reads-done _ starts_event_or_end) (λ t h. h))
@@ -411,9 +411,9 @@ pub blocks_err : (xs rest : List Item) → block_at xs ≡ Err rest → blocks_a
 unfolding blocks_at
 blocks_err xs rest e = rw e refl
 
-pub blocks_begin : (xs ys : List Item) (b : SackBlock) → block_at xs ≡ Ok (b, ys) → onto (b ∷ []) (repeated_at is_int block_at ys) ≡ blocks_at xs
+pub blocks_begin : (xs ys : List Item) (b : SackBlock) → block_at xs ≡ Ok (b, ys) → onto (b ∷ []) (repeated_at is_next_int_within_u32 block_at ys) ≡ blocks_at xs
 unfolding blocks_at
-blocks_begin xs ys b e = rw e (sym (cons_is b (repeated_at is_int block_at ys)))
+blocks_begin xs ys b e = rw e (sym (cons_is b (repeated_at is_next_int_within_u32 block_at ys)))
 
 pub options_err : (xs rest : List Item) → option_at xs ≡ Err rest → some_options_at xs ≡ Err rest
 unfolding some_options_at

@@ -2,7 +2,7 @@
 use Rattle.std.proofs.Common.{◌≡◌, ℕ, ◌+◌, ◌<◌, ◌≤◌, zero, suc, Bool, true, false, List, [], ◌∷◌, length, max, refl, sym, ap, subst, ◌∙◌, arith}
 use Rattle.std.specs.List.{list_all}
 use Rattle.std.proofs.lemmas.List.{nil_from_length}
-use Rattle.pd_text.specs.Text.{is_line}
+use Rattle.pd_text.specs.Text.{has_no_newline}
 use Rattle.pd_lex.specs.declared.token.Place.{Place}
 use Rattle.pd_lex.specs.declared.token.Token.{Token}
 use Rattle.pd_lex.specs.Places.{clamped_place, octets_from, place_after, before, between, IsPlace}
@@ -18,7 +18,7 @@ use Rattle.pd_lex.proofs.Texts.{clamped_is_place}
 use Rattle.pd_script.specs.Next.{place_of}
 
 -- the place that the lexer answers after a token is the one after its octets
-pub token_after : (lines : List (List ℕ)) → list_all is_line lines ≡ true → (p : Place) (t : Token) → IsTokenAt lines p t → place_after t.from (between lines t.from t.to) ≡ t.to
+pub token_after : (lines : List (List ℕ)) → list_all has_no_newline lines ≡ true → (p : Place) (t : Token) → IsTokenAt lines p t → place_after t.from (between lines t.from t.to) ≡ t.to
 token_after lines plain p t h =
     let text = between lines t.from t.to in
     let left = advance lines plain t.from text (octets_from lines t.to) h.from h.longest.cut in
@@ -33,7 +33,7 @@ is_bad (bad line) = true
 abbrev pub StandThere : List (List ℕ) → List Item → Type 0
 StandThere lines those = (t : Item) (rest : List Item) → those ≡ t ∷ rest → is_bad t ≡ false → items lines (place_of t) ≡ t ∷ rest
 
-module _ (lines : List (List ℕ)) (plain : list_all is_line lines ≡ true) where
+module _ (lines : List (List ℕ)) (plain : list_all has_no_newline lines ≡ true) where
   end_stands : StandThere lines (ending (max 1 (length lines)) ∷ [])
   end_stands t rest is good =
       let there : items lines (record { line = max 1 (length lines) + 1; at = 0 }) ≡ ending (max 1 (length lines)) ∷ [] = items_past lines plain (record { line = max 1 (length lines) + 1; at = 0 }) (omega arith) in

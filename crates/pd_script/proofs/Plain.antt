@@ -11,7 +11,7 @@ use Rattle.pd_lex.specs.declared.token.TokenKind.TheVariants as kinds
 use Rattle.pd_lex.specs.Octets.{is_digit, is_word, is_printable}
 use Rattle.pd_lex.specs.Spellings.{IsHex, IsWord, HasNo, IsSpelled}
 use Rattle.pd_lex.specs.Tokens.{Item, lexeme, ending, bad}
-use Rattle.pd_script.specs.Items.{is_digits, IsPlain}
+use Rattle.pd_script.specs.Items.{is_nonempty_digits, IsPlain}
 
 -- it begins with no digit
 abbrev is_name : List ℕ → Bool
@@ -24,7 +24,7 @@ is_sign _ = false
 
 -- the octets spell a token of the kind
 abbrev pub is_spelled : TokenKind → List ℕ → Bool
-is_spelled kinds.Int text = is_digits text
+is_spelled kinds.Int text = is_nonempty_digits text
 is_spelled kinds.Hex text = bytes_eq text (codes "0x0")
 is_spelled kinds.Word text = is_name text
 is_spelled kinds.Decimal text = bytes_eq text (codes "4294967295.999999")
@@ -47,7 +47,7 @@ is_not : (b : Bool) → not b ≡ true → b ≡ false
 is_not true h = absurd cc
 is_not false h = refl
 
-some_digits : (text : List ℕ) → is_digits text ≡ true → (0 < length text) × (list_all is_digit text ≡ true)
+some_digits : (text : List ℕ) → is_nonempty_digits text ≡ true → (0 < length text) × (list_all is_digit text ≡ true)
 some_digits text h =
     let p = both (nat_lt 0 (length text)) (list_all is_digit text) h in
     let some : 0 < length text = (let q = p.0 in grind (arith, nat_tests)) in

@@ -3,7 +3,7 @@ use Rattle.std.proofs.Common.{◌≡◌, ℕ, zero, suc, ◌≤◌, Bool, true, 
 use Rattle.std.specs.Prelude.{All}
 use Rattle.std.specs.List.{list_all}
 use Rattle.std.proofs.lemmas.List.Elements.{All-nil, All-cons}
-use Rattle.pd_text.specs.Text.{is_line}
+use Rattle.pd_text.specs.Text.{has_no_newline}
 use Rattle.pd_lex.specs.declared.token.Place.{Place}
 use Rattle.pd_lex.specs.Places.{first_place, clamped_place, octets_from, place_after, before}
 use Rattle.pd_lex.specs.Pieces.{Front, nothing, gap, token, stray, front}
@@ -61,7 +61,7 @@ in_order_lines lines line (lexeme x ∷ ts) one h c = ((omega (arith, h.0), h.1)
 in_order_lines lines line (ending n ∷ ts) one h c = ((omega (arith, h), omega (arith, h)), rw c tt)
 in_order_lines lines line (bad n ∷ ts) one h c = ((omega (arith, h.0), h.1), rw c tt)
 
-pub items_lines : ItemsAreInOrder → (lines : List (List ℕ)) → list_all is_line lines ≡ true → AreLinesOf lines (items lines first_place)
+pub items_lines : ItemsAreInOrder → (lines : List (List ℕ)) → list_all has_no_newline lines ≡ true → AreLinesOf lines (items lines first_place)
 items_lines law lines plain = in_order_lines lines 1 (items lines first_place) (omega arith) (law lines first_place plain) (items_closed lines first_place)
 
 -- ---- lines of events and of the fault
@@ -150,7 +150,7 @@ pub script_is_read : (lines : List (List ℕ)) → IsRead (items lines first_pla
 unfolding script_of
 script_is_read lines = script_read (items lines first_place) (items_closed lines first_place)
 
-pub script_has_lines : ItemsAreInOrder → (lines : List (List ℕ)) → list_all is_line lines ≡ true → HasLines lines (script_of lines)
+pub script_has_lines : ItemsAreInOrder → (lines : List (List ℕ)) → list_all has_no_newline lines ≡ true → HasLines lines (script_of lines)
 script_has_lines law lines plain = lines_by lines (items lines first_place) (script_of lines) (script_of lines).fault refl (script_is_read lines).1 (items_lines law lines plain)
 
 pub script_is_short : (lines : List (List ℕ)) → length (script_of lines).events ≤ 4096

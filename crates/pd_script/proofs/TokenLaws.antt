@@ -4,7 +4,7 @@ use Rattle.std.specs.Prelude.{not, ◌&&◌, ◌||◌}
 use Rattle.std.specs.Str.{bytes_eq}
 use Rattle.pd_lex.specs.declared.token.TokenKind.TheVariants as kinds
 use Rattle.pd_lex.specs.Tokens.{Item, line_of}
-use Rattle.pd_script.specs.Items.{is_int, is_num, is_dots, is_symbol, is_int_kind, is_num_kind, is_dots_kind, is_symbol_kind, is_end, starts_event, starts_event_or_end, text_of}
+use Rattle.pd_script.specs.Items.{is_next_int_within_u32, is_num, is_dots, is_symbol, is_int_kind, is_num_kind, is_dots_kind, is_symbol_kind, is_end, starts_event, starts_event_or_end, text_of}
 use Rattle.pd_script.specs.Values.{number}
 use Rattle.pd_script.specs.Reader.{Reader, ◌>>=◌, done, one, when}
 use Rattle.pd_script.specs.TokenReading.{symbol_at, int_at, dots_at}
@@ -38,8 +38,8 @@ IsSymbolOf octet = in_turn (token (is_symbol octet)) (λ t. made (line_of t))
 pub symbol : (octet : ℕ) → is_symbol octet (a_token kinds.Symbol (octet ∷ [])) ≡ true → is_plain (a_token kinds.Symbol (octet ∷ [])) ≡ true → Reads (symbol_at octet) (IsSymbolOf octet) (is_symbol octet) any
 symbol octet h g = last (one (is_symbol octet)) (λ t. line_of t) (token (is_symbol octet)) (is_symbol octet) any (Reads-one is_symbol_kind (is_symbol octet) (a_token kinds.Symbol (octet ∷ [])) (symbol_kind octet) h g)
 
-pub int : Reads int_at IsInt is_int any
-int = last (one is_int) (λ t. number (text_of t)) (token is_int) is_int any (Reads-one is_int_kind is_int (a_token kinds.Int (48 ∷ [])) int_kind refl refl)
+pub int : Reads int_at IsInt is_next_int_within_u32 any
+int = last (one is_next_int_within_u32) (λ t. number (text_of t)) (token is_next_int_within_u32) is_next_int_within_u32 any (Reads-one is_int_kind is_next_int_within_u32 (a_token kinds.Int (48 ∷ [])) int_kind refl refl)
 
 pub dots : Reads dots_at IsDots is_dots any
 dots = last (one is_dots) (λ t. tt) (token is_dots) is_dots any (Reads-one is_dots_kind is_dots (a_token kinds.Dots (46 ∷ 46 ∷ 46 ∷ [])) dots_kind refl refl)

@@ -1,9 +1,9 @@
 -- How the arguments of a call and a note are read, token by token.
 use Rattle.std.specs.Prelude.{ℕ, ◌&&◌, ◌||◌, ◌==◌, Bool, true, false, List, [], ◌∷◌, length, Option, Some, None, Ok, Err, if◌then◌else◌}
 use Rattle.pd_lex.specs.Tokens.{Item, lexeme, ending, bad}
-use Rattle.pd_script.specs.Items.{is_any_int, is_word, is_symbol, text_of, next_is}
+use Rattle.pd_script.specs.Items.{is_int_of_any_size, is_word, is_symbol, text_of, next_is}
 use Rattle.pd_lex.specs.Numbers.{capped_number}
-use Rattle.pd_script.specs.Values.{sign, constant_named}
+use Rattle.pd_script.specs.Values.{sign, constant_by_name_or_unknown}
 use Rattle.pd_script.specs.Brackets.{pairs_after}
 use Rattle.pd_script.specs.Reader.{Read, Reader, Move, stuck, ends, goes}
 use Rattle.pd_script.specs.declared.calls.Argument.{Argument}
@@ -15,12 +15,12 @@ use Rattle.pd_script.specs.declared.argument_builder.ArgumentBuilder.TheVariants
 
 -- an argument of one token
 abbrev pub single_token_builder : Item → ArgumentBuilder
-single_token_builder t = if is_any_int t then argument_builder.Single (arguments.Int (capped_number (text_of t))) else (if is_word t then argument_builder.Single (arguments.Constant (constant_named (text_of t))) else (if is_symbol (sign "[") t then argument_builder.Opened else argument_builder.Mixed))
+single_token_builder t = if is_int_of_any_size t then argument_builder.Single (arguments.Int (capped_number (text_of t))) else (if is_word t then argument_builder.Single (arguments.Constant (constant_by_name_or_unknown (text_of t))) else (if is_symbol (sign "[") t then argument_builder.Opened else argument_builder.Mixed))
 
 -- an argument with one token more
 abbrev pub extended_builder : ArgumentBuilder → Item → ArgumentBuilder
 extended_builder argument_builder.Empty t = single_token_builder t
-extended_builder argument_builder.Opened t = if is_any_int t then argument_builder.Numbered (capped_number (text_of t)) else argument_builder.Mixed
+extended_builder argument_builder.Opened t = if is_int_of_any_size t then argument_builder.Numbered (capped_number (text_of t)) else argument_builder.Mixed
 extended_builder (argument_builder.Numbered n) t = if is_symbol (sign "]") t then argument_builder.Element n else argument_builder.Mixed
 extended_builder _ t = argument_builder.Mixed
 

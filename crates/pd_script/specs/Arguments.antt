@@ -1,9 +1,9 @@
 -- Arguments of a call, and what their tokens are.
 use Rattle.std.specs.Prelude.{◌≡◌, ℕ, ◌&&◌, Bool, true, false, List, [], ◌∷◌, ◌++◌, Some, if◌then◌else◌, ⊤}
 use Rattle.pd_lex.specs.Tokens.{Item}
-use Rattle.pd_script.specs.Items.{is_any_int, is_word, is_symbol, text_of}
+use Rattle.pd_script.specs.Items.{is_int_of_any_size, is_word, is_symbol, text_of}
 use Rattle.pd_lex.specs.Numbers.{capped_number}
-use Rattle.pd_script.specs.Values.{sign, constant_named}
+use Rattle.pd_script.specs.Values.{sign, constant_by_name_or_unknown}
 use Rattle.pd_script.specs.Brackets.{pairs_after}
 use Rattle.pd_script.specs.declared.calls.Argument.{Argument}
 use Rattle.pd_script.specs.declared.calls.Argument.TheVariants as arguments
@@ -23,10 +23,10 @@ Balances parts most pairs (t ∷ ts) = (parts pairs t ≡ false) × (next : List
 -- the items of an argument: one whole number, one word, a whole number between `[` and `]`, or anything else
 abbrev pub argument_of : List Item → Argument
 argument_of (t ∷ []) =
-    if is_any_int t then arguments.Int (capped_number (text_of t))
-    else (if is_word t then arguments.Constant (constant_named (text_of t)) else arguments.Other)
+    if is_int_of_any_size t then arguments.Int (capped_number (text_of t))
+    else (if is_word t then arguments.Constant (constant_by_name_or_unknown (text_of t)) else arguments.Other)
 argument_of (o ∷ t ∷ c ∷ []) =
-    if is_symbol (sign "[") o && is_any_int t && is_symbol (sign "]") c then arguments.Element (capped_number (text_of t)) else arguments.Other
+    if is_symbol (sign "[") o && is_int_of_any_size t && is_symbol (sign "]") c then arguments.Element (capped_number (text_of t)) else arguments.Other
 argument_of _ = arguments.Other
 
 -- one or more items with balanced brackets, at most 16 pairs inside one another, and no comma outside them

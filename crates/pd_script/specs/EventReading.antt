@@ -1,8 +1,8 @@
 -- The grammar, read from left to right.
 use Rattle.std.specs.Prelude.{ℕ, zero, suc, true, false, List, [], ◌∷◌, Option, Some, None, ⊤}
 use Rattle.pd_lex.specs.Tokens.{Item, line_of}
-use Rattle.pd_script.specs.Items.{is_int, is_hex, is_num, is_num_from, is_dots, is_command, is_code, is_word, is_symbol, is_end, starts_event, text_of}
-use Rattle.pd_script.specs.Values.{sign, hex_number, microseconds, function_named, error_named}
+use Rattle.pd_script.specs.Items.{is_next_int_within_u32, is_next_hex_within_u32, is_num, is_num_from, is_dots, is_command, is_code, is_word, is_symbol, is_end, starts_event, text_of}
+use Rattle.pd_script.specs.Values.{sign, saturated_hex_number, microseconds, function_by_name_or_unknown, error_by_name_or_unknown}
 use Rattle.pd_script.specs.Reader.{Reader, ◌>>=◌, done, one, when, machine_at}
 use Rattle.pd_script.specs.TokenReading.{symbol_at, int_at, dots_at}
 use Rattle.pd_script.specs.PacketReading.{packet_at}
@@ -29,8 +29,8 @@ next_line (t ∷ ts) = line_of t
 -- a hexadecimal number
 abbrev pub hex_at : Reader ℕ
 hex_at = do
-  t ← one is_hex
-  done (hex_number (text_of t))
+  t ← one is_next_hex_within_u32
+  done (saturated_hex_number (text_of t))
 
 -- a number of microseconds, with the line of its token
 abbrev pub num_at : Reader (ℕ × ℕ)
@@ -42,13 +42,13 @@ num_at = do
 abbrev pub function_at : Reader Function
 function_at = do
   t ← one is_word
-  done (function_named (text_of t))
+  done (function_by_name_or_unknown (text_of t))
 
 -- the name of an error
 abbrev pub error_at : Reader ErrorName
 error_at = do
   t ← one is_word
-  done (error_named (text_of t))
+  done (error_by_name_or_unknown (text_of t))
 
 -- a number of at least so many microseconds
 abbrev pub num_from_at : ℕ → Reader ℕ
@@ -150,7 +150,7 @@ negative_at = do
 
 -- the result of a call
 unfoldable pub expected_result_at : Reader ExpectedResult
-expected_result_at = when is_int whole_at (when is_hex hexadecimal_at negative_at)
+expected_result_at = when is_next_int_within_u32 whole_at (when is_next_hex_within_u32 hexadecimal_at negative_at)
 
 -- the bracket that ends a call's arguments, where there are none
 abbrev pub no_arguments_at : Reader (List Argument)

@@ -1,8 +1,8 @@
 -- The grammar: which items spell a time, a call and an event.
 use Rattle.std.specs.Prelude.{ℕ, true, false, Option, Some, None}
 use Rattle.pd_lex.specs.Tokens.{line_of}
-use Rattle.pd_script.specs.Items.{is_hex, is_num, is_num_from, is_command, is_code, is_word, text_of}
-use Rattle.pd_script.specs.Values.{hex_number, microseconds, function_named, error_named}
+use Rattle.pd_script.specs.Items.{is_next_hex_within_u32, is_num, is_num_from, is_command, is_code, is_word, text_of}
+use Rattle.pd_script.specs.Values.{saturated_hex_number, microseconds, function_by_name_or_unknown, error_by_name_or_unknown}
 use Rattle.pd_script.specs.Spelling.{Spelling, one_of, made, ◌>>=◌, either, IsSymbol, IsInt, IsDots}
 use Rattle.pd_script.specs.PacketGrammar.{IsPacket}
 use Rattle.pd_script.specs.Arguments.{IsArguments, IsNote}
@@ -21,7 +21,7 @@ use Rattle.pd_script.specs.declared.script_events.Event.{Event}
 
 -- a hexadecimal number of at most 4,294,967,295
 abbrev pub IsHex : Spelling ℕ
-IsHex = one_of is_hex (λ t. hex_number (text_of t))
+IsHex = one_of is_next_hex_within_u32 (λ t. saturated_hex_number (text_of t))
 
 -- seconds, as their line and microseconds; the whole part is at most 4,294,967,295
 abbrev pub IsNum : Spelling (ℕ × ℕ)
@@ -29,11 +29,11 @@ IsNum = one_of is_num (λ t. (line_of t, microseconds (text_of t)))
 
 -- a word, as the name of a call
 abbrev pub IsFunction : Spelling Function
-IsFunction = one_of is_word (λ t. function_named (text_of t))
+IsFunction = one_of is_word (λ t. function_by_name_or_unknown (text_of t))
 
 -- a word, as the name of an error
 abbrev pub IsErrorName : Spelling ErrorName
-IsErrorName = one_of is_word (λ t. error_named (text_of t))
+IsErrorName = one_of is_word (λ t. error_by_name_or_unknown (text_of t))
 
 -- ---- times
 

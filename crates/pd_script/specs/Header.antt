@@ -6,7 +6,7 @@ use Rattle.pd_lex.specs.declared.token.TokenKind.TheVariants as kinds
 use Rattle.pd_lex.specs.declared.token.Place.{Place}
 use Rattle.pd_lex.specs.Places.{first_place, place_after}
 use Rattle.pd_lex.specs.Tokens.{Item, lexeme, ending, bad, line_of}
-use Rattle.pd_script.specs.Items.{is_digits}
+use Rattle.pd_script.specs.Items.{is_nonempty_digits}
 use Rattle.pd_script.specs.Values.{number}
 use Rattle.pd_script.specs.declared.script_header.HeaderItem.{HeaderItem}
 use Rattle.pd_script.specs.declared.script_header.HeaderKind.{HeaderKind}
@@ -16,7 +16,7 @@ use Rattle.pd_script.specs.declared.script_header.HeaderKind.TheVariants as head
 unfoldable pub option_kind : List ℕ → HeaderKind
 option_kind text =
     let digits = drop 18 text in
-    if starts_with nat_eq text (codes "--tolerance_usecs=") && is_digits digits && nat_le (number digits) 1000000
+    if starts_with nat_eq text (codes "--tolerance_usecs=") && is_nonempty_digits digits && nat_le (number digits) 1000000
     then headers.Tolerance (number digits)
     else headers.OtherOption
 

@@ -7,7 +7,7 @@ use Rattle.pd_lex.specs.declared.token.TokenKind.TheVariants as kinds
 use Rattle.pd_lex.specs.Octets.{is_digit}
 use Rattle.pd_lex.specs.Spellings.{IsSpelled}
 use Rattle.pd_lex.specs.Tokens.{Item, lexeme, ending, bad}
-use Rattle.pd_script.specs.Values.{sign, number, hex_number, microseconds, is_flag_letter, option_named}
+use Rattle.pd_script.specs.Values.{sign, number, saturated_hex_number, microseconds, is_flag_letter, find_option_by_name}
 
 -- digits alone
 abbrev pub is_int_kind : TokenKind → Bool
@@ -58,24 +58,24 @@ abbrev pub is_small : ℕ → Bool
 is_small n = nat_le n 4294967295
 
 -- an Int of any size
-abbrev pub is_any_int : Item → Bool
-is_any_int t = is_token (λ kind text. is_int_kind kind) t
+abbrev pub is_int_of_any_size : Item → Bool
+is_int_of_any_size t = is_token (λ kind text. is_int_kind kind) t
 
 -- an Int, where numbers have a bound
-abbrev pub is_int : Item → Bool
-is_int t = is_token (λ kind text. is_int_kind kind && is_small (number text)) t
+abbrev pub is_next_int_within_u32 : Item → Bool
+is_next_int_within_u32 t = is_token (λ kind text. is_int_kind kind && is_small (number text)) t
 
 -- one that is at least another
 abbrev pub is_int_from : ℕ → Item → Bool
-is_int_from least t = is_int t && nat_le least (number (text_of t))
+is_int_from least t = is_next_int_within_u32 t && nat_le least (number (text_of t))
 
 -- one that is just this number
 abbrev pub is_int_of : ℕ → Item → Bool
-is_int_of n t = is_int t && (number (text_of t) == n)
+is_int_of n t = is_next_int_within_u32 t && (number (text_of t) == n)
 
 -- a Hex, where numbers have a bound
-abbrev pub is_hex : Item → Bool
-is_hex t = is_token (λ kind text. is_hex_kind kind && is_small (hex_number text)) t
+abbrev pub is_next_hex_within_u32 : Item → Bool
+is_next_hex_within_u32 t = is_token (λ kind text. is_hex_kind kind && is_small (saturated_hex_number text)) t
 
 -- an Int or a Decimal, as seconds below 4,294,967,296: its whole part has the bound
 abbrev pub is_num : Item → Bool
@@ -126,7 +126,7 @@ is_flags t = is_token (λ kind text. is_word_kind kind && list_all is_flag_lette
 
 -- a word that names a TCP option
 abbrev pub is_option : Item → Bool
-is_option t = is_token (λ kind text. is_word_kind kind && is_some (option_named text)) t
+is_option t = is_token (λ kind text. is_word_kind kind && is_some (find_option_by_name text)) t
 
 -- the symbol of an octet
 abbrev pub is_symbol : ℕ → Item → Bool
@@ -151,8 +151,8 @@ abbrev pub starts_event_or_end : Item → Bool
 starts_event_or_end t = starts_event t || is_end t
 
 -- the octets are digits, one or more
-abbrev pub is_digits : List ℕ → Bool
-is_digits text = nat_lt 0 (length text) && list_all is_digit text
+abbrev pub is_nonempty_digits : List ℕ → Bool
+is_nonempty_digits text = nat_lt 0 (length text) && list_all is_digit text
 
 -- a token as it is spelled, or the end
 abbrev pub IsPlain : Item → Type 0

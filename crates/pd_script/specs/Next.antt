@@ -22,9 +22,9 @@ place_of (ending line) = record { line = line + 1; at = 0 }
 place_of (bad line) = record { line = line; at = 0 }
 
 -- where the next item stands; without one the text's first place
-abbrev pub next_place : List Item → Place
-next_place [] = first_place
-next_place (t ∷ ts) = place_of t
+abbrev pub place_of_next_token_or_end : List Item → Place
+place_of_next_token_or_end [] = first_place
+place_of_next_token_or_end (t ∷ ts) = place_of t
 
 -- the line of the token that decides what is before it; none where the text ends there
 abbrev pub lookahead_line_of : List Item → Option ℕ
@@ -32,7 +32,7 @@ lookahead_line_of ts = if next_is is_end ts then None else Some (next_line ts)
 
 -- an event that was read, and where the item after it stands
 abbrev pub got : Read Event → NextEvent
-got (Ok x) = Got x.0 (next_place x.1) (lookahead_line_of x.1)
+got (Ok x) = Got x.0 (place_of_next_token_or_end x.1) (lookahead_line_of x.1)
 got (Err rest) = Fault (next_line rest)
 
 -- the next item, where its event is in a place of its own

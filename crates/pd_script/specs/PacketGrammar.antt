@@ -1,7 +1,7 @@
 -- Which items spell a packet.
 use Rattle.std.specs.Prelude.{codes, ℕ, ◌-◌, Bool, true, false, List, [], ◌∷◌, Option, Some, None, unwrap_or, ⊤}
 use Rattle.pd_script.specs.Items.{is_int_from, is_int_of, is_named, is_flags, is_option, text_of}
-use Rattle.pd_script.specs.Values.{number, flags_of, with_ack, option_named}
+use Rattle.pd_script.specs.Values.{number, flags_of, with_ack, find_option_by_name}
 use Rattle.pd_script.specs.Spelling.{Spelling, one_of, made, in_turn, ◌>>=◌, either, IsSymbol, IsInt, IsDots, Repeats}
 use Rattle.pd_script.specs.declared.names.OptionName.{OptionName}
 use Rattle.pd_script.specs.declared.names.OptionName.TheVariants as names
@@ -33,7 +33,7 @@ IsLetters = one_of is_flags (λ t. flags_of (text_of t))
 
 -- a word that names a TCP option
 abbrev pub IsOptionName : Spelling OptionName
-IsOptionName = one_of is_option (λ t. unwrap_or (option_named (text_of t)) names.Nop)
+IsOptionName = one_of is_option (λ t. unwrap_or (find_option_by_name (text_of t)) names.Nop)
 
 -- ---- flags
 

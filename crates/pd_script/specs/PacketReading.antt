@@ -1,8 +1,8 @@
 -- The parts of packets, read from left to right.
 use Rattle.std.specs.Prelude.{codes, ℕ, zero, suc, ◌-◌, Bool, true, false, List, [], ◌∷◌, length, Option, Some, None, unwrap_or, ⊤}
 use Rattle.pd_lex.specs.Tokens.{Item}
-use Rattle.pd_script.specs.Items.{is_int, is_int_from, is_int_of, is_named, is_flags, is_option, is_dots, is_symbol, text_of}
-use Rattle.pd_script.specs.Values.{sign, number, flags_of, with_ack, option_named}
+use Rattle.pd_script.specs.Items.{is_next_int_within_u32, is_int_from, is_int_of, is_named, is_flags, is_option, is_dots, is_symbol, text_of}
+use Rattle.pd_script.specs.Values.{sign, number, flags_of, with_ack, find_option_by_name}
 use Rattle.pd_script.specs.Reader.{Reader, ◌>>=◌, done, one, when}
 use Rattle.pd_script.specs.TokenReading.{symbol_at, int_at, dots_at}
 use Rattle.pd_script.specs.declared.names.OptionName.{OptionName}
@@ -45,7 +45,7 @@ letters_at = do
 abbrev pub option_name_at : Reader OptionName
 option_name_at = do
   t ← one is_option
-  done (unwrap_or (option_named (text_of t)) names.Nop)
+  done (unwrap_or (find_option_by_name (text_of t)) names.Nop)
 
 -- ---- one after the other, each where the next item passes the test; at most so many
 
@@ -130,7 +130,7 @@ block_at = do
 unfoldable pub blocks_at : Reader (List SackBlock)
 blocks_at = do
   b ← block_at
-  bs ← repeated_at is_int block_at
+  bs ← repeated_at is_next_int_within_u32 block_at
   done (b ∷ bs)
 
 -- the parts after `TS`: `val` and `ecr`, each with a number

@@ -2,7 +2,7 @@
 use Prim.Native.String.{String}
 use Rattle.std.specs.Prelude.{◌≡◌, ℕ, Bool, true, List, [], ◌∷◌, ◌⊎◌, ⊤}
 use Rattle.pd_lex.specs.Tokens.{Item, line_of}
-use Rattle.pd_script.specs.Items.{is_int, is_symbol, is_dots, text_of}
+use Rattle.pd_script.specs.Items.{is_next_int_within_u32, is_symbol, is_dots, text_of}
 use Rattle.pd_script.specs.Values.{number, sign}
 
 -- a value, items that begin with a spelling of it, and what is left of them
@@ -44,7 +44,7 @@ IsSymbol text = one_of (is_symbol (sign text)) line_of
 
 -- a whole number of at most 4,294,967,295
 abbrev pub IsInt : Spelling ℕ
-IsInt = one_of is_int (λ t. number (text_of t))
+IsInt = one_of is_next_int_within_u32 (λ t. number (text_of t))
 
 -- `...`
 abbrev pub IsDots : Spelling ⊤

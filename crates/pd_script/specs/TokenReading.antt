@@ -1,7 +1,7 @@
 -- Tokens that several parts of the grammar read.
 use Rattle.std.specs.Prelude.{ℕ, ⊤}
 use Rattle.pd_lex.specs.Tokens.{line_of}
-use Rattle.pd_script.specs.Items.{is_int, is_symbol, is_dots, text_of}
+use Rattle.pd_script.specs.Items.{is_next_int_within_u32, is_symbol, is_dots, text_of}
 use Rattle.pd_script.specs.Values.{number}
 use Rattle.pd_script.specs.Reader.{Reader, ◌>>=◌, done, one}
 
@@ -14,7 +14,7 @@ symbol_at octet = do
 -- a whole number
 abbrev pub int_at : Reader ℕ
 int_at = do
-  t ← one is_int
+  t ← one is_next_int_within_u32
   done (number (text_of t))
 
 -- `...`

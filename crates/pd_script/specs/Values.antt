@@ -23,8 +23,8 @@ abbrev pub number : List ℕ → ℕ
 number text = digits_value 10 text
 
 -- the number of hexadecimal digits after `0x`
-abbrev pub hex_number : List ℕ → ℕ
-hex_number text = digits_value 16 (drop 2 text)
+abbrev pub saturated_hex_number : List ℕ → ℕ
+saturated_hex_number text = digits_value 16 (drop 2 text)
 
 -- how many octets are before the point
 abbrev pub len_before_point : List ℕ → ℕ
@@ -59,8 +59,8 @@ abbrev pub named_functions : List Function
 named_functions = functions.Socket ∷ functions.Bind ∷ functions.Listen ∷ functions.Accept ∷ functions.Setsockopt ∷ functions.Fcntl ∷ functions.Write ∷ functions.Close ∷ []
 
 -- the call of a name
-unfoldable pub function_named : List ℕ → Function
-function_named text = unwrap_or (find (λ f. bytes_eq (function_name f) text) named_functions) functions.Unknown
+unfoldable pub function_by_name_or_unknown : List ℕ → Function
+function_by_name_or_unknown text = unwrap_or (find (λ f. bytes_eq (function_name f) text) named_functions) functions.Unknown
 
 -- the name of a constant
 abbrev pub constant_name : Constant → List ℕ
@@ -78,8 +78,8 @@ abbrev pub named_constants : List Constant
 named_constants = constants.SockStream ∷ constants.IpprotoTcp ∷ constants.SolSocket ∷ constants.SolTcp ∷ constants.SoReuseaddr ∷ constants.TcpNodelay ∷ constants.FSetfl ∷ []
 
 -- the constant of a name
-unfoldable pub constant_named : List ℕ → Constant
-constant_named text = unwrap_or (find (λ c. bytes_eq (constant_name c) text) named_constants) constants.Unknown
+unfoldable pub constant_by_name_or_unknown : List ℕ → Constant
+constant_by_name_or_unknown text = unwrap_or (find (λ c. bytes_eq (constant_name c) text) named_constants) constants.Unknown
 
 -- the name of an error
 abbrev pub error_name : ErrorName → List ℕ
@@ -94,8 +94,8 @@ abbrev pub named_errors : List ErrorName
 named_errors = errors.Ebadf ∷ errors.Einval ∷ errors.Eagain ∷ errors.Epipe ∷ []
 
 -- the error of a name
-unfoldable pub error_named : List ℕ → ErrorName
-error_named text = unwrap_or (find (λ e. bytes_eq (error_name e) text) named_errors) errors.Unknown
+unfoldable pub error_by_name_or_unknown : List ℕ → ErrorName
+error_by_name_or_unknown text = unwrap_or (find (λ e. bytes_eq (error_name e) text) named_errors) errors.Unknown
 
 -- the name of a TCP option
 abbrev pub option_name : OptionName → List ℕ
@@ -112,8 +112,8 @@ abbrev pub named_options : List OptionName
 named_options = options.Mss ∷ options.Wscale ∷ options.SackOk ∷ options.Nop ∷ options.Eol ∷ options.Timestamp ∷ options.Sack ∷ []
 
 -- the TCP option of a name
-unfoldable pub option_named : List ℕ → Option OptionName
-option_named text = find (λ o. bytes_eq (option_name o) text) named_options
+unfoldable pub find_option_by_name : List ℕ → Option OptionName
+find_option_by_name text = find (λ o. bytes_eq (option_name o) text) named_options
 
 -- the letters of flags: F, S, R, P, U, E, W and C
 abbrev pub is_flag_letter : ℕ → Bool

@@ -3,8 +3,8 @@ ghost use Rattle.std.specs.Prelude.{◌≡◌, false};
 
 use crate::brackets::OpenPairs;
 use crate::calls::Argument;
-use crate::names::constant_named;
-use crate::token_tests::{is_any_int, is_symbol, is_word};
+use crate::names::constant_by_name_or_unknown;
+use crate::token_tests::{is_any_word, is_int_of_any_size, is_symbol};
 use pd_lex::Token;
 
 /// The tokens of an argument so far.
@@ -32,10 +32,10 @@ impl ArgumentBuilder {
     fn from_first_token(token: &Token) -> ArgumentBuilder
         ensures { result ≡ single_token_builder (shown token.now) }
     {
-        if is_any_int(token) {
+        if is_int_of_any_size(token) {
             ArgumentBuilder::Single(Argument::Int(token.number))
-        } else if is_word(token) {
-            ArgumentBuilder::Single(Argument::Constant(constant_named(token.text)))
+        } else if is_any_word(token) {
+            ArgumentBuilder::Single(Argument::Constant(constant_by_name_or_unknown(token.text)))
         } else if is_symbol(token, b'[') {
             ArgumentBuilder::Opened
         } else {
@@ -63,7 +63,9 @@ impl ArgumentBuilder {
         ensures { self.new ≡ extended_builder self.old (shown token.now) }
     {
         *self = match *self {
-            ArgumentBuilder::Opened if is_any_int(token) => ArgumentBuilder::Numbered(token.number),
+            ArgumentBuilder::Opened if is_int_of_any_size(token) => ArgumentBuilder::Numbered(
+                token.number,
+            ),
             ArgumentBuilder::Numbered(n) if is_symbol(token, b']') => ArgumentBuilder::Element(n),
             _ => ArgumentBuilder::Mixed,
         };

@@ -3,13 +3,15 @@ ghost use Rattle.std.specs.Prelude.{◌≡◌};
 ghost use Rattle.pd_lex.specs.Lexing.{items};
 ghost use Rattle.pd_script.specs.ArgumentReading.{part_at, note_part_at, after_token};
 ghost use Rattle.pd_script.specs.EventReading.{next_line};
-ghost use Rattle.pd_script.specs.Next.{next_place};
+ghost use Rattle.pd_script.specs.Next.{place_of_next_token_or_end};
 ghost use Rattle.pd_script.specs.Cursor.{IsPeeked, Leaves, Moves};
 
 use crate::argument_builder::BracketContext;
 use crate::brackets::{MAX_DEPTH, OpenPairs};
 use crate::parse_error::ParseError;
-use pd_lex::{Lexed, Lookahead, Place, lookahead_at, update_lookahead};
+use pd_lex::{
+    Lexed, Lookahead, Place, next_token_and_its_end_line, replace_lookahead_by_next_token_from,
+};
 use pd_text::Lines;
 use std::marker::Model;
 
@@ -42,7 +44,7 @@ impl<'a> Cursor<'a> {
     {
         Cursor {
             lines,
-            lookahead: lookahead_at(lines, place),
+            lookahead: next_token_and_its_end_line(lines, place),
         }
     }
 
@@ -60,8 +62,8 @@ impl<'a> Cursor<'a> {
 
     /// Where the next token or the end stands: the end after the last line.
     #[tactic(auto, unfolding(pd_lex::specs::Lexing::lexeme_of))]
-    pub fn next_place(&self) -> Place
-        ensures { result ≡ next_place self.now }
+    pub fn place_of_next_token_or_end(&self) -> Place
+        ensures { result ≡ place_of_next_token_or_end self.now }
     {
         match self.lookahead.next {
             Lexed::Token(token) => token.from,
@@ -87,7 +89,7 @@ impl<'a> Cursor<'a> {
         ensures { self.new ≡ after_token self.old }
     {
         if let Lexed::Token(token) = self.lookahead.next {
-            update_lookahead(self.lines, token.to, &mut self.lookahead);
+            replace_lookahead_by_next_token_from(self.lines, token.to, &mut self.lookahead);
         }
     }
 

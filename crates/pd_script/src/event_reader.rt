@@ -6,7 +6,7 @@ ghost use Rattle.pd_script.specs.Next.{next_in, lookahead_line_of, with_event, I
 use crate::cursor::Cursor;
 use crate::parse_error::ParseError;
 use crate::script_events::Event;
-use pd_lex::{Place, law_items_after_tokens};
+use pd_lex::{Place, law_items_after_token_follow_its_end};
 use pd_text::Lines;
 use std::alloc::{AllocError, Global};
 use std::marker::Model;
@@ -67,7 +67,7 @@ impl<'a> EventReader<'a> {
     /// # Errors
     /// `AllocError` where a growth is refused.
     #[inline(always)]
-    pub fn read_event(
+    pub fn read_next_event_into(
         &mut self,
         alloc: Global,
         event: &mut Event,
@@ -75,13 +75,13 @@ impl<'a> EventReader<'a> {
         ensures next { IfOk result (λ next. with_event event.new next ≡ next_in self.old) }
         ensures left { IfOk result (λ next. LeavesNext (with_event event.new next) self.new self.old) }
     {
-        self.cursor.read_event(alloc, event)
+        self.cursor.read_event_into_giving_status(alloc, event)
     }
 }
 
 impl<'a> Cursor<'a> {
     /// The line of the next token, if there is one.
-    pub fn lookahead_line(&self) -> Option<usize>
+    pub fn line_of_next_token_if_any(&self) -> Option<usize>
         ensures { result ≡ lookahead_line_of self.now }
     {
         if self.is_end() {
@@ -97,7 +97,7 @@ impl<'a> Cursor<'a> {
     /// `AllocError` where a growth is refused.
     #[inline(always)]
     #[tactic(auto, unfolding(crate::specs::Next::next_in))]
-    pub fn read_event(
+    pub fn read_event_into_giving_status(
         &mut self,
         alloc: Global,
         event: &mut Event,
@@ -111,16 +111,16 @@ impl<'a> Cursor<'a> {
         if !self.starts_event() {
             return Ok(NextEventStatus::Fault(self.line()));
         }
-        match self.take_event(alloc, event) {
+        match self.take_event_into(alloc, event) {
             Ok(()) => {}
             Err(ParseError::Syntax) => return Ok(NextEventStatus::Fault(self.line())),
             Err(ParseError::OutOfMemory) => return Err(AllocError),
         }
-        let lookahead_line = self.lookahead_line();
+        let lookahead_line = self.line_of_next_token_if_any();
         if lookahead_line.is_some() && !self.starts_event() {
             return Ok(NextEventStatus::Fault(self.line()));
         }
-        Ok(NextEventStatus::After(self.next_place(), lookahead_line))
+        Ok(NextEventStatus::After(self.place_of_next_token_or_end(), lookahead_line))
     }
 
     /// Takes the next event.
@@ -132,15 +132,17 @@ impl<'a> Cursor<'a> {
         ensures left { IfOk result (λ next. LeavesNext next self.new self.old) }
     {
         let mut event = Event::placeholder();
-        Ok(match self.read_event(alloc, &mut event)? {
-            NextEventStatus::After(place, lookahead_line) => NextEvent::Got(
-                event,
-                place,
-                lookahead_line,
-            ),
-            NextEventStatus::End => NextEvent::End,
-            NextEventStatus::Fault(line) => NextEvent::Fault(line),
-        })
+        Ok(
+            match self.read_event_into_giving_status(alloc, &mut event)? {
+                NextEventStatus::After(place, lookahead_line) => NextEvent::Got(
+                    event,
+                    place,
+                    lookahead_line,
+                ),
+                NextEventStatus::End => NextEvent::End,
+                NextEventStatus::Fault(line) => NextEvent::Fault(line),
+            },
+        )
     }
 }
 
@@ -159,7 +161,7 @@ pub fn next_event(alloc: Global, lines: &Lines, place: Place) -> Result<NextEven
     ensures goes_on { IfOk result (GoesOn lines.now place) }
 {
     // The law of tokens does no work: that what is left is at its place rests on it.
-    law_items_after_tokens();
+    law_items_after_token_follow_its_end();
     lines.law_invariant();
     let next = Cursor::at(lines, place).next_event(alloc)?;
     Ok(next)

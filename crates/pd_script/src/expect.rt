@@ -9,8 +9,10 @@ ghost use Rattle.pd_script.specs.Cursor.{Leaves, Moves};
 
 use crate::calls::{ErrorName, Function};
 use crate::cursor::Cursor;
-use crate::names::{OptionName, error_named, function_named, option_named};
-use crate::numbers::{TIME_LIMIT, hex_number, microseconds};
+use crate::names::{
+    OptionName, error_by_name_or_unknown, find_option_by_name, function_by_name_or_unknown,
+};
+use crate::numbers::{TIME_LIMIT, saturated_hex_number, saturated_microseconds_of_seconds};
 use crate::packets::{PacketFlags, are_flag_letters};
 use crate::parse_error::ParseError;
 use crate::script_events::Action;
@@ -28,7 +30,7 @@ macro_rules! next_token {
 
 /// A number of the grammar, of which none is above 4,294,967,295.
 #[inline(always)]
-fn checked_u32(number: u64) -> Result<u32, ParseError>
+fn u32_or_syntax_error(number: u64) -> Result<u32, ParseError>
     ensures { result ≡ (if is_small number then Ok number else Err Syntax) }
 {
     let Ok(number) = u32::try_from(number) else {
@@ -43,7 +45,7 @@ impl<'a> Cursor<'a> {
     /// # Errors
     /// `Syntax` where the next token isn't this symbol, which isn't taken then.
     #[tactic(auto, using(crate::proofs::Symbols::one_octet), unfolding(pd_lex::specs::Lexing::lexeme_of))]
-    pub fn take_symbol(&mut self, octet: u8) -> Result<usize, ParseError>
+    pub fn take_this_symbol_giving_line(&mut self, octet: u8) -> Result<usize, ParseError>
         ensures { Leaves result self.new (symbol_at octet self.old) }
     {
         let (symbol, from) = next_token!(self, TokenKind::Symbol, symbol, from);
@@ -62,7 +64,7 @@ impl<'a> Cursor<'a> {
     pub fn take_int(&mut self) -> Result<u32, ParseError>
         ensures { Leaves result self.new (int_at self.old) }
     {
-        let number = checked_u32(next_token!(self, TokenKind::Int, number))?;
+        let number = u32_or_syntax_error(next_token!(self, TokenKind::Int, number))?;
         self.advance();
         Ok(number)
     }
@@ -75,7 +77,7 @@ impl<'a> Cursor<'a> {
     pub fn take_int_at_least(&mut self, least: u32) -> Result<u32, ParseError>
         ensures { Leaves result self.new (int_from_at least self.old) }
     {
-        let number = checked_u32(next_token!(self, TokenKind::Int, number))?;
+        let number = u32_or_syntax_error(next_token!(self, TokenKind::Int, number))?;
         if number < least {
             return Err(ParseError::Syntax);
         }
@@ -91,7 +93,7 @@ impl<'a> Cursor<'a> {
     pub fn take_int_equal_to(&mut self, wanted: u32) -> Result<u32, ParseError>
         ensures { Leaves result self.new (int_of_at wanted self.old) }
     {
-        let number = checked_u32(next_token!(self, TokenKind::Int, number))?;
+        let number = u32_or_syntax_error(next_token!(self, TokenKind::Int, number))?;
         if number != wanted {
             return Err(ParseError::Syntax);
         }
@@ -108,7 +110,7 @@ impl<'a> Cursor<'a> {
         ensures { Leaves result self.new (hex_at self.old) }
     {
         let text = next_token!(self, TokenKind::Hex, text);
-        let number = checked_u32(hex_number(text))?;
+        let number = u32_or_syntax_error(saturated_hex_number(text))?;
         self.advance();
         Ok(number)
     }
@@ -119,11 +121,11 @@ impl<'a> Cursor<'a> {
     /// `Syntax` where the next token is no number, or one of 4,294,967,296 seconds or more. It isn't taken then.
     #[tactic(auto, unfolding(pd_lex::specs::Lexing::lexeme_of))]
     #[inline(always)]
-    pub fn take_seconds(&mut self) -> Result<(usize, u64), ParseError>
+    pub fn take_line_and_microseconds(&mut self) -> Result<(usize, u64), ParseError>
         ensures { Leaves result self.new (num_at self.old) }
     {
         let (text, from) = next_token!(self, TokenKind::Int | TokenKind::Decimal, text, from);
-        let time = microseconds(text);
+        let time = saturated_microseconds_of_seconds(text);
         if time >= TIME_LIMIT {
             return Err(ParseError::Syntax);
         }
@@ -137,11 +139,11 @@ impl<'a> Cursor<'a> {
     /// `Syntax` where the next token is no number, or one of 4,294,967,296 seconds or more, or below the least. It isn't
     /// taken then.
     #[tactic(auto, unfolding(pd_lex::specs::Lexing::lexeme_of))]
-    pub fn take_seconds_at_least(&mut self, least: u64) -> Result<u64, ParseError>
+    pub fn take_microseconds_at_least(&mut self, least: u64) -> Result<u64, ParseError>
         ensures { Leaves result self.new (num_from_at least self.old) }
     {
         let text = next_token!(self, TokenKind::Int | TokenKind::Decimal, text);
-        let time = microseconds(text);
+        let time = saturated_microseconds_of_seconds(text);
         if time >= TIME_LIMIT || time < least {
             return Err(ParseError::Syntax);
         }
@@ -163,7 +165,7 @@ impl<'a> Cursor<'a> {
             return Err(ParseError::Syntax);
         }
         self.advance();
-        Ok(PacketFlags::of_letters(text))
+        Ok(PacketFlags::of_letters_without_ack(text))
     }
 
     /// Takes the name of a TCP option.
@@ -175,7 +177,7 @@ impl<'a> Cursor<'a> {
         ensures { Leaves result self.new (option_name_at self.old) }
     {
         let text = next_token!(self, TokenKind::Word, text);
-        let Some(name) = option_named(text) else {
+        let Some(name) = find_option_by_name(text) else {
             return Err(ParseError::Syntax);
         };
         self.advance();
@@ -188,12 +190,12 @@ impl<'a> Cursor<'a> {
     /// `Syntax` where the next token is no word. It isn't taken then.
     #[tactic(auto, unfolding(pd_lex::specs::Lexing::lexeme_of))]
     #[inline(always)]
-    pub fn take_function_name(&mut self) -> Result<Function, ParseError>
+    pub fn take_function_name_or_unknown(&mut self) -> Result<Function, ParseError>
         ensures { Leaves result self.new (function_at self.old) }
     {
         let text = next_token!(self, TokenKind::Word, text);
         self.advance();
-        Ok(function_named(text))
+        Ok(function_by_name_or_unknown(text))
     }
 
     /// Takes the name of an error.
@@ -201,12 +203,12 @@ impl<'a> Cursor<'a> {
     /// # Errors
     /// `Syntax` where the next token is no word. It isn't taken then.
     #[tactic(auto, unfolding(pd_lex::specs::Lexing::lexeme_of))]
-    pub fn take_error_name(&mut self) -> Result<ErrorName, ParseError>
+    pub fn take_error_name_or_unknown(&mut self) -> Result<ErrorName, ParseError>
         ensures { Leaves result self.new (error_at self.old) }
     {
         let text = next_token!(self, TokenKind::Word, text);
         self.advance();
-        Ok(error_named(text))
+        Ok(error_by_name_or_unknown(text))
     }
 
     /// Takes three points.
@@ -227,7 +229,7 @@ impl<'a> Cursor<'a> {
     /// # Errors
     /// `Syntax` where the next token isn't this word. It isn't taken then.
     #[tactic(auto, unfolding(pd_lex::specs::Lexing::lexeme_of))]
-    pub fn take_word(&mut self, name: &[u8]) -> Result<(), ParseError>
+    pub fn take_this_word(&mut self, name: &[u8]) -> Result<(), ParseError>
         ensures { Leaves result self.new (named_at name.now self.old) }
     {
         let text = next_token!(self, TokenKind::Word, text);
@@ -243,7 +245,7 @@ impl<'a> Cursor<'a> {
     /// # Errors
     /// `Syntax` where the next token is no shell command. It isn't taken then.
     #[tactic(auto, unfolding(pd_lex::specs::Lexing::lexeme_of))]
-    pub fn take_command(&mut self, action: &mut Action) -> Result<(), ParseError>
+    pub fn take_command_into_action(&mut self, action: &mut Action) -> Result<(), ParseError>
         ensures { Moves result action.new self.new (command_at self.old) }
     {
         next_token!(self, TokenKind::Cmd);
@@ -257,7 +259,7 @@ impl<'a> Cursor<'a> {
     /// # Errors
     /// `Syntax` where the next token isn't code. It isn't taken then.
     #[tactic(auto, unfolding(pd_lex::specs::Lexing::lexeme_of))]
-    pub fn take_code(&mut self, action: &mut Action) -> Result<(), ParseError>
+    pub fn take_code_into_action(&mut self, action: &mut Action) -> Result<(), ParseError>
         ensures { Moves result action.new self.new (code_at self.old) }
     {
         next_token!(self, TokenKind::Code);

@@ -13,11 +13,11 @@ use pd_text::Lines;
 use std::alloc::{AllocError, Global};
 
 /// The header item that a token is.
-fn header_item_of(token: &Token) -> Option<HeaderItem>
+fn header_item_of_token_if_any(token: &Token) -> Option<HeaderItem>
     ensures { result ≡ given is_header (λ t. header_item t) (shown token.now) }
 {
     let kind = match token.kind {
-        TokenKind::Opt => HeaderKind::of_option(token.text),
+        TokenKind::Opt => HeaderKind::tolerance_or_other_option(token.text),
         TokenKind::Cmd => HeaderKind::Command,
         _ => return None,
     };
@@ -28,13 +28,13 @@ fn header_item_of(token: &Token) -> Option<HeaderItem>
 }
 
 /// The header item at a place of a text and the place after it, if one is there.
-fn next_header_item(lines: &Lines, place: Place) -> Option<(HeaderItem, Place)>
+fn header_item_and_next_place_if_any(lines: &Lines, place: Place) -> Option<(HeaderItem, Place)>
     ensures some { IfSome result (λ found. IsItemAt lines.now place found.0 found.1) }
     ensures none { IfNone result (next_is is_header (items lines.now place) ≡ false) }
 {
     lines.law_invariant();
     match next_token(lines, place) {
-        Lexed::Token(token) => match header_item_of(&token) {
+        Lexed::Token(token) => match header_item_of_token_if_any(&token) {
             Some(item) => Some((item, token.to)),
             None => None,
         },
@@ -53,7 +53,7 @@ pub fn read_header(alloc: Global, lines: &Lines) -> Result<Header, AllocError>
     ensures after { IfOk result (λ header. items lines.now header.end ≡ after_header (items lines.now first_place)) }
 {
     let mut header = Header::new(alloc);
-    'items: while let Some((item, after)) = next_header_item(lines, header.end()) {
+    'items: while let Some((item, after)) = header_item_and_next_place_if_any(lines, header.end()) {
         header.push(item, after)?;
     }
     Ok(header)

@@ -58,5 +58,5 @@ pub use parsed::Parsed;
 pub use read_script::{MAX_EVENTS, parse};
 pub use script_events::{Action, Event, Events};
 pub use script_header::{Header, HeaderItem, HeaderKind};
-pub use script_laws::{law_items_stand_there, law_scripts_are_grammatical};
+pub use script_laws::{law_reading_resumes_at_item_place, law_scripts_are_grammatical};
 pub use timing::{BlockingEnd, Time};

@@ -1,9 +1,11 @@
 //! The next token's kind, before it is taken.
 ghost use Rattle.std.specs.Prelude.{◌≡◌};
-ghost use Rattle.pd_script.specs.Items.{is_int, is_named, is_hex, is_num, is_dots, is_word, is_symbol, is_end, starts_event, next_is};
+ghost use Rattle.pd_script.specs.Items.{is_next_int_within_u32, is_named, is_next_hex_within_u32, is_num, is_dots, is_word, is_symbol, is_end, starts_event, next_is};
 
 use crate::cursor::Cursor;
-use crate::numbers::{MAX_NUMBER, TIME_LIMIT, hex_number, microseconds};
+use crate::numbers::{
+    MAX_NUMBER, TIME_LIMIT, saturated_hex_number, saturated_microseconds_of_seconds,
+};
 use pd_lex::{Lexed, TokenKind};
 
 impl<'a> Cursor<'a> {
@@ -29,8 +31,8 @@ impl<'a> Cursor<'a> {
 
     /// Whether an Int of at most 4,294,967,295 comes next.
     #[tactic(auto, unfolding(pd_lex::specs::Lexing::lexeme_of))]
-    pub fn is_int(&self) -> bool
-        ensures { result ≡ next_is is_int self.now }
+    pub fn is_next_int_within_u32(&self) -> bool
+        ensures { result ≡ next_is is_next_int_within_u32 self.now }
     {
         match self.peek() {
             Lexed::Token(token) => {
@@ -42,12 +44,13 @@ impl<'a> Cursor<'a> {
 
     /// Whether a Hex of at most 4,294,967,295 comes next.
     #[tactic(auto, unfolding(pd_lex::specs::Lexing::lexeme_of))]
-    pub fn is_hex(&self) -> bool
-        ensures { result ≡ next_is is_hex self.now }
+    pub fn is_next_hex_within_u32(&self) -> bool
+        ensures { result ≡ next_is is_next_hex_within_u32 self.now }
     {
         match self.peek() {
             Lexed::Token(token) => {
-                matches!(token.kind, TokenKind::Hex) && hex_number(token.text) <= MAX_NUMBER
+                matches!(token.kind, TokenKind::Hex)
+                    && saturated_hex_number(token.text) <= MAX_NUMBER
             },
             _ => false,
         }
@@ -55,13 +58,13 @@ impl<'a> Cursor<'a> {
 
     /// Whether an Int or a Decimal below 4,294,967,296 seconds comes next.
     #[tactic(auto, unfolding(pd_lex::specs::Lexing::lexeme_of))]
-    pub fn is_seconds(&self) -> bool
+    pub fn is_next_seconds_within_limit(&self) -> bool
         ensures { result ≡ next_is is_num self.now }
     {
         match self.peek() {
             Lexed::Token(token) => {
                 matches!(token.kind, TokenKind::Int | TokenKind::Decimal)
-                    && microseconds(token.text) < TIME_LIMIT
+                    && saturated_microseconds_of_seconds(token.text) < TIME_LIMIT
             },
             _ => false,
         }
@@ -104,6 +107,6 @@ impl<'a> Cursor<'a> {
     pub fn starts_event(&self) -> bool
         ensures { result ≡ next_is starts_event self.now }
     {
-        self.is_seconds() || self.is_symbol(b'+') || self.is_symbol(b'*')
+        self.is_next_seconds_within_limit() || self.is_symbol(b'+') || self.is_symbol(b'*')
     }
 }

@@ -1,7 +1,7 @@
 //! The names of calls, constants and errors.
 ghost use Rattle.std.specs.Prelude.{◌≡◌, find};
 ghost use Rattle.std.specs.Str.{bytes_eq};
-ghost use Rattle.pd_script.specs.Values.{function_name, function_named, named_functions, constant_name, constant_named, named_constants, error_name, error_named, named_errors, option_name, option_named, named_options};
+ghost use Rattle.pd_script.specs.Values.{function_name, function_by_name_or_unknown, named_functions, constant_name, constant_by_name_or_unknown, named_constants, error_name, error_by_name_or_unknown, named_errors, option_name, find_option_by_name, named_options};
 
 use crate::calls::{Constant, ErrorName, Function};
 
@@ -43,9 +43,9 @@ fn option_name(option: &OptionName) -> &'static [u8]
 }
 
 /// The TCP option of a name.
-#[tactic(auto, unfolding(crate::specs::Values::option_named))]
-pub fn option_named(name: &[u8]) -> Option<OptionName>
-    ensures { result ≡ option_named name.now }
+#[tactic(auto, unfolding(crate::specs::Values::find_option_by_name))]
+pub fn find_option_by_name(name: &[u8]) -> Option<OptionName>
+    ensures { result ≡ find_option_by_name name.now }
 {
     OPTIONS
         .iter()
@@ -155,25 +155,25 @@ fn find_error(name: &[u8]) -> Option<ErrorName>
 }
 
 /// The call of a name.
-#[tactic(auto, unfolding(crate::specs::Values::function_named))]
-pub fn function_named(name: &[u8]) -> Function
-    ensures { result ≡ function_named name.now }
+#[tactic(auto, unfolding(crate::specs::Values::function_by_name_or_unknown))]
+pub fn function_by_name_or_unknown(name: &[u8]) -> Function
+    ensures { result ≡ function_by_name_or_unknown name.now }
 {
     find_function(name).unwrap_or(Function::Unknown)
 }
 
 /// The constant of a name.
-#[tactic(auto, unfolding(crate::specs::Values::constant_named))]
-pub fn constant_named(name: &[u8]) -> Constant
-    ensures { result ≡ constant_named name.now }
+#[tactic(auto, unfolding(crate::specs::Values::constant_by_name_or_unknown))]
+pub fn constant_by_name_or_unknown(name: &[u8]) -> Constant
+    ensures { result ≡ constant_by_name_or_unknown name.now }
 {
     find_constant(name).unwrap_or(Constant::Unknown)
 }
 
 /// The error of a name.
-#[tactic(auto, unfolding(crate::specs::Values::error_named))]
-pub fn error_named(name: &[u8]) -> ErrorName
-    ensures { result ≡ error_named name.now }
+#[tactic(auto, unfolding(crate::specs::Values::error_by_name_or_unknown))]
+pub fn error_by_name_or_unknown(name: &[u8]) -> ErrorName
+    ensures { result ≡ error_by_name_or_unknown name.now }
 {
     find_error(name).unwrap_or(ErrorName::Unknown)
 }

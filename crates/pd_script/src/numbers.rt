@@ -2,11 +2,11 @@
 ghost use Rattle.std.specs.Prelude.{◌≡◌, ◌+◌, ◌-◌, ◌*◌, ◌^◌, ◌≤◌, ◌++◌, min, fold, get_or, length, drop, take, replicate};
 ghost use Rattle.std.specs.List.{list_all};
 ghost use Rattle.pd_lex.specs.Octets.{is_digit};
-ghost use Rattle.pd_script.specs.Items.{is_digits};
-ghost use Rattle.pd_script.specs.Values.{hex_number, len_before_point, microseconds};
+ghost use Rattle.pd_script.specs.Items.{is_nonempty_digits};
+ghost use Rattle.pd_script.specs.Values.{saturated_hex_number, len_before_point, microseconds};
 ghost use Rattle.pd_lex.specs.Scanned.{wrapped_digit};
 
-use pd_lex::{decimal_value, digit_value, value_with_more_digits};
+use pd_lex::{digit_value, saturating_decimal_value, saturating_value_with_more_digits};
 
 /// A time is below so many microseconds.
 pub const TIME_LIMIT: u64 = 4_294_967_296_000_000;
@@ -15,7 +15,7 @@ pub const TIME_LIMIT: u64 = 4_294_967_296_000_000;
 pub const MAX_NUMBER: u64 = 4_294_967_295;
 
 /// The digits after `0x`.
-fn hex_digits(text: &[u8]) -> &[u8]
+fn digits_after_unchecked_hex_prefix(text: &[u8]) -> &[u8]
     ensures { result.now ≡ drop 2 text.now }
 {
     if text.len() < 2 { &[] } else { &text[2..] }
@@ -23,10 +23,10 @@ fn hex_digits(text: &[u8]) -> &[u8]
 
 /// The number in hexadecimal digits after `0x`; one above the greatest `u64` counts as that.
 #[tactic(auto, using(crate::proofs::Capped::capping))]
-pub fn hex_number(text: &[u8]) -> u64
-    ensures { result ≡ min (hex_number text.now) (2 ^ 64 - 1) }
+pub fn saturated_hex_number(text: &[u8]) -> u64
+    ensures { result ≡ min (saturated_hex_number text.now) (2 ^ 64 - 1) }
 {
-    value_with_more_digits(16, 0, hex_digits(text))
+    saturating_value_with_more_digits(16, 0, digits_after_unchecked_hex_prefix(text))
 }
 
 /// How many octets are before the point.
@@ -50,7 +50,7 @@ fn digits_after_point(text: &[u8], len: usize) -> &[u8]
 }
 
 /// The decimal at a place after the point; one that isn't written is a zero.
-fn decimal_or_zero_at(decimals: &[u8], place: usize) -> u8
+fn decimal_octet_or_ascii_zero_at(decimals: &[u8], place: usize) -> u8
     ensures { result ≡ get_or decimals.now place 48 }
 {
     if place < decimals.len() {
@@ -66,19 +66,19 @@ fn microseconds_of_decimals(decimals: &[u8]) -> u64
 {
     let mut number = 0u64;
     'places: for place in 0..6usize {
-        number = number
-            .wrapping_mul(10)
-            .wrapping_add(digit_value(decimal_or_zero_at(decimals, place)));
+        number = number.wrapping_mul(10).wrapping_add(digit_value(decimal_octet_or_ascii_zero_at(
+            decimals, place,
+        )));
     }
     number
 }
 
 /// The microseconds of seconds in digits, or in digits with a point; more than the greatest `u64` stand as that.
-pub fn microseconds(text: &[u8]) -> u64
+pub fn saturated_microseconds_of_seconds(text: &[u8]) -> u64
     ensures { result ≡ min (microseconds text.now) (2 ^ 64 - 1) }
 {
     let len = len_before_point(text);
-    let whole = decimal_value(&text[..len]).saturating_mul(1_000_000);
+    let whole = saturating_decimal_value(&text[..len]).saturating_mul(1_000_000);
     if len == text.len() {
         return whole;
     }
@@ -91,15 +91,15 @@ fn is_digit_octet(octet: u8) -> bool
     matches!(octet, b'0'..=b'9')
 }
 
-fn are_digits(octets: &[u8]) -> bool
+fn are_all_digits_or_empty(octets: &[u8]) -> bool
     ensures { result ≡ list_all is_digit octets.now }
 {
     octets.iter().all(|octet| is_digit_octet(*octet))
 }
 
 /// Whether the octets are digits, one or more.
-pub fn is_digits(octets: &[u8]) -> bool
-    ensures { result ≡ is_digits octets.now }
+pub fn is_nonempty_digits(octets: &[u8]) -> bool
+    ensures { result ≡ is_nonempty_digits octets.now }
 {
-    0 < octets.len() && are_digits(octets)
+    0 < octets.len() && are_all_digits_or_empty(octets)
 }

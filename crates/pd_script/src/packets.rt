@@ -70,7 +70,7 @@ fn has_letter(letters: &[u8], letter: u8) -> bool
 }
 
 /// Whether a letter of a flag that isn't run is among them.
-fn has_other_flag(letters: &[u8]) -> bool
+fn has_unsupported_flag_letter(letters: &[u8]) -> bool
     ensures { result ≡ list_any (λ octet. (octet == 85) || (octet == 69) || (octet == 87) || (octet == 67)) letters.now }
 {
     letters.iter().any(|octet| *octet == b'U' || *octet == b'E' || *octet == b'W' || *octet == b'C')
@@ -81,7 +81,7 @@ impl PacketFlags {
 
     /// The flags that letters name, without ACK.
     #[tactic(auto, unfolding(crate::specs::Values::flags_of))]
-    pub fn of_letters(letters: &[u8]) -> PacketFlags
+    pub fn of_letters_without_ack(letters: &[u8]) -> PacketFlags
         ensures { result ≡ flags_of letters.now }
     {
         PacketFlags {
@@ -90,12 +90,12 @@ impl PacketFlags {
             rst: has_letter(letters, b'R'),
             psh: has_letter(letters, b'P'),
             ack: false,
-            other: has_other_flag(letters),
+            other: has_unsupported_flag_letter(letters),
         }
     }
 
     /// The same flags with ACK.
-    pub fn with_ack(self) -> PacketFlags
+    pub fn with_ack_set(self) -> PacketFlags
         ensures { result ≡ with_ack self }
     {
         PacketFlags { ack: true, ..self }

@@ -26,7 +26,10 @@ impl<'a> Cursor<'a> {
     /// `Syntax` where an argument is empty or none goes on, and the cursor is there; `OutOfMemory` where a growth is
     /// refused.
     #[inline(always)]
-    pub fn take_arguments(&mut self, alloc: Global) -> Result<Arguments, ParseError>
+    pub fn take_arguments_and_closing_bracket(
+        &mut self,
+        alloc: Global,
+    ) -> Result<Arguments, ParseError>
         ensures { Leaves result self.new (arguments_at self.old) }
     {
         let mut arguments = Arguments::new(alloc);
@@ -65,7 +68,7 @@ impl<'a> Cursor<'a> {
     ///
     /// # Errors
     /// `Syntax` where no note goes on; the cursor is there.
-    pub fn skip_note_body(&mut self) -> Result<(), ParseError>
+    pub fn skip_note_body_and_closing_bracket(&mut self) -> Result<(), ParseError>
         ensures { SkipsNote result self.new (machine_at note_move [] self.old) }
     {
         let mut pairs = OpenPairs::new();

@@ -25,8 +25,8 @@ impl<'a> Cursor<'a> {
                     ..
                 },
             ) => {
-                self.take_symbol(b'-')?;
-                Ok(PacketFlags::of_letters(&[]))
+                self.take_this_symbol_giving_line(b'-')?;
+                Ok(PacketFlags::of_letters_without_ack(&[]))
             }
             Lexed::Token(
                 Token {
@@ -35,36 +35,36 @@ impl<'a> Cursor<'a> {
                     ..
                 },
             ) => {
-                self.take_symbol(b'.')?;
-                Ok(PacketFlags::of_letters(&[]).with_ack())
+                self.take_this_symbol_giving_line(b'.')?;
+                Ok(PacketFlags::of_letters_without_ack(&[]).with_ack_set())
             }
-            _ => self.take_lettered_flags(),
+            _ => self.take_lettered_flags_with_ack_dot(),
         }
     }
 
     /// Takes flags that are written in letters.
-    fn take_lettered_flags(&mut self) -> Result<PacketFlags, ParseError>
+    fn take_lettered_flags_with_ack_dot(&mut self) -> Result<PacketFlags, ParseError>
         ensures { Leaves result self.new (lettered_at self.old) }
     {
         let flags = self.take_flag_letters()?;
         if !self.is_symbol(b'.') {
             return Ok(flags);
         }
-        self.take_symbol(b'.')?;
-        Ok(flags.with_ack())
+        self.take_this_symbol_giving_line(b'.')?;
+        Ok(flags.with_ack_set())
     }
 
     /// Takes the start, the end and the length.
     #[tactic(auto, unfolding(crate::specs::PacketReading::octets_at))]
-    fn take_seq_range(&mut self) -> Result<(u32, u32, u32), ParseError>
+    fn take_seq_range_and_length(&mut self) -> Result<(u32, u32, u32), ParseError>
         ensures { Leaves result self.new (octets_at self.old) }
     {
         let start = self.take_int()?;
-        self.take_symbol(b':')?;
+        self.take_this_symbol_giving_line(b':')?;
         let end = self.take_int_at_least(start)?;
-        self.take_symbol(b'(')?;
+        self.take_this_symbol_giving_line(b'(')?;
         let length = self.take_int_equal_to(end.saturating_sub(start))?;
-        self.take_symbol(b')')?;
+        self.take_this_symbol_giving_line(b')')?;
         Ok((start, end, length))
     }
 
@@ -75,27 +75,27 @@ impl<'a> Cursor<'a> {
         if !self.is_this_word(b"ack") {
             return Ok(None);
         }
-        self.take_word(b"ack")?;
+        self.take_this_word(b"ack")?;
         Ok(Some(self.take_int()?))
     }
 
     /// Takes the window, which an inbound packet has.
     #[tactic(auto, unfolding(crate::specs::PacketReading::win_at))]
-    fn take_win(&mut self, inbound: bool) -> Result<Option<u32>, ParseError>
+    fn take_win_if_inbound_or_written(&mut self, inbound: bool) -> Result<Option<u32>, ParseError>
         ensures { Leaves result self.new (win_at inbound self.old) }
     {
         if !inbound && !self.is_this_word(b"win") {
             return Ok(None);
         }
-        self.take_word(b"win")?;
+        self.take_this_word(b"win")?;
         Ok(Some(self.take_int()?))
     }
 
-    fn sack_block(&mut self) -> Result<SackBlock, ParseError>
+    fn take_sack_block(&mut self) -> Result<SackBlock, ParseError>
         ensures { Leaves result self.new (block_at self.old) }
     {
         let left = self.take_int()?;
-        self.take_symbol(b':')?;
+        self.take_this_symbol_giving_line(b':')?;
         let right = self.take_int()?;
         Ok(SackBlock {
             left: u64::from(left),
@@ -108,9 +108,9 @@ impl<'a> Cursor<'a> {
         ensures { Leaves result self.new (blocks_at self.old) }
     {
         let mut blocks = SackBlockList::new(alloc);
-        blocks.push(self.sack_block()?)?;
-        'more: while self.is_int() {
-            let sack_block = self.sack_block()?;
+        blocks.push(self.take_sack_block()?)?;
+        'more: while self.is_next_int_within_u32() {
+            let sack_block = self.take_sack_block()?;
             blocks.push(sack_block)?;
         }
         Ok(blocks)
@@ -119,9 +119,9 @@ impl<'a> Cursor<'a> {
     fn take_timestamp(&mut self) -> Result<PacketOption, ParseError>
         ensures { Leaves result self.new (timestamp_at self.old) }
     {
-        self.take_word(b"val")?;
+        self.take_this_word(b"val")?;
         let val = self.take_int()?;
-        self.take_word(b"ecr")?;
+        self.take_this_word(b"ecr")?;
         let ecr = self.take_int()?;
         Ok(PacketOption::Timestamp(u64::from(val), u64::from(ecr)))
     }
@@ -147,61 +147,65 @@ impl<'a> Cursor<'a> {
     }
 
     #[tactic(auto, unfolding(crate::specs::PacketReading::option_at))]
-    fn packet_option(&mut self, alloc: Global) -> Result<PacketOption, ParseError>
+    fn take_packet_option(&mut self, alloc: Global) -> Result<PacketOption, ParseError>
         ensures { Leaves result self.new (option_at self.old) }
     {
         let name = self.take_option_name()?;
         self.take_option_rest(alloc, name)
     }
 
-    fn packet_option_after_comma(&mut self, alloc: Global) -> Result<PacketOption, ParseError>
+    fn take_option_after_comma(&mut self, alloc: Global) -> Result<PacketOption, ParseError>
         ensures { Leaves result self.new (next_option_at self.old) }
     {
-        self.take_symbol(b',')?;
-        self.packet_option(alloc)
+        self.take_this_symbol_giving_line(b',')?;
+        self.take_packet_option(alloc)
     }
 
     /// Takes one option or more.
-    fn take_some_options(&mut self, alloc: Global) -> Result<OptionList, ParseError>
+    fn take_one_or_more_options(&mut self, alloc: Global) -> Result<OptionList, ParseError>
         ensures { Leaves result self.new (some_options_at self.old) }
     {
         let mut options = OptionList::new(alloc);
-        options.push(self.packet_option(alloc)?)?;
+        options.push(self.take_packet_option(alloc)?)?;
         'more: while self.is_symbol(b',') {
-            let packet_option = self.packet_option_after_comma(alloc)?;
+            let packet_option = self.take_option_after_comma(alloc)?;
             options.push(packet_option)?;
         }
         Ok(options)
     }
 
     /// Takes options up to the bracket that ends them.
-    fn take_listed_options(&mut self, alloc: Global) -> Result<Options, ParseError>
+    fn take_options_to_closing_bracket(&mut self, alloc: Global) -> Result<Options, ParseError>
         ensures { Leaves result self.new (list_at self.old) }
     {
         if self.is_symbol(b'>') {
-            self.take_symbol(b'>')?;
+            self.take_this_symbol_giving_line(b'>')?;
             return Ok(Options::Listed(OptionList::new(alloc)));
         }
-        let options = self.take_some_options(alloc)?;
-        self.take_symbol(b'>')?;
+        let options = self.take_one_or_more_options(alloc)?;
+        self.take_this_symbol_giving_line(b'>')?;
         Ok(Options::Listed(options))
     }
 
     /// Takes the options, if any are written.
     #[tactic(auto, unfolding(crate::specs::PacketReading::options_at))]
-    fn take_options(&mut self, alloc: Global, inbound: bool) -> Result<Options, ParseError>
+    fn take_options_or_absent(
+        &mut self,
+        alloc: Global,
+        inbound: bool,
+    ) -> Result<Options, ParseError>
         ensures { Leaves result self.new (options_at inbound self.old) }
     {
         if !self.is_symbol(b'<') {
             return Ok(Options::Absent);
         }
-        self.take_symbol(b'<')?;
+        self.take_this_symbol_giving_line(b'<')?;
         if !inbound && self.is_dots() {
             self.take_dots()?;
-            self.take_symbol(b'>')?;
+            self.take_this_symbol_giving_line(b'>')?;
             return Ok(Options::Any);
         }
-        self.take_listed_options(alloc)
+        self.take_options_to_closing_bracket(alloc)
     }
 
     /// Takes a packet; an inbound one has a window and lists its options.
@@ -213,10 +217,10 @@ impl<'a> Cursor<'a> {
         ensures { Leaves result self.new (packet_at inbound self.old) }
     {
         let flags = self.take_flags()?;
-        let (start, end, length) = self.take_seq_range()?;
+        let (start, end, length) = self.take_seq_range_and_length()?;
         let ack = self.take_ack()?;
-        let win = self.take_win(inbound)?;
-        let options = self.take_options(alloc, inbound)?;
+        let win = self.take_win_if_inbound_or_written(inbound)?;
+        let options = self.take_options_or_absent(alloc, inbound)?;
         Ok(Packet {
             flags,
             start,

@@ -12,7 +12,7 @@ use crate::event_reader::NextEventStatus;
 use crate::header_reader::read_header;
 use crate::parsed::{EventsAndFault, Parsed};
 use crate::script_events::{Event, Events};
-use pd_lex::{law_first_lines, law_longest_pieces};
+use pd_lex::{law_first_lines_fix_tokens_in_order, law_tokens_are_exactly_longest_pieces};
 use pd_text::Lines;
 use std::alloc::{AllocError, Global};
 
@@ -22,13 +22,13 @@ pub const MAX_EVENTS: usize = 4_096;
 impl<'a> Cursor<'a> {
     /// Takes all events. After the last that a script may have, another one is the fault, and what
     /// it follows isn't kept.
-    fn take_events(&mut self, alloc: Global) -> Result<EventsAndFault, AllocError>
+    fn take_events_and_fault_if_any(&mut self, alloc: Global) -> Result<EventsAndFault, AllocError>
         ensures { IfOk result (λ found. found ≡ found_in 4096 self.old) }
     {
         let mut events = Events::new(alloc);
         'events: for i in 0..MAX_EVENTS {
             let mut event = Event::placeholder();
-            match self.read_event(alloc, &mut event)? {
+            match self.read_event_into_giving_status(alloc, &mut event)? {
                 NextEventStatus::After(_, lookahead_line) => {
                     if i + 1 == MAX_EVENTS && lookahead_line.is_some() {
                         return Ok(EventsAndFault {
@@ -48,7 +48,7 @@ impl<'a> Cursor<'a> {
                 }
             }
         }
-        let fault = self.lookahead_line();
+        let fault = self.line_of_next_token_if_any();
         Ok(EventsAndFault { events, fault })
     }
 }
@@ -73,19 +73,22 @@ pub fn parse(alloc: Global, lines: &Lines) -> Result<Parsed, AllocError>
     ensures end { IfOk result (λ parsed. HasEnd (items lines.now first_place) parsed.header) }
 {
     // The laws of tokens do no work: the contracts on items and their lines rest on them.
-    law_longest_pieces();
-    law_first_lines();
-    let parsed = read_header_and_events(alloc, lines)?;
+    law_tokens_are_exactly_longest_pieces();
+    law_first_lines_fix_tokens_in_order();
+    let parsed = read_header_events_and_fault(alloc, lines)?;
     lines.law_invariant();
     Ok(parsed)
 }
 
 #[tactic(auto, unfolding(crate::specs::Script::script_of, crate::specs::Script::script_in))]
-fn read_header_and_events(alloc: Global, lines: &Lines) -> Result<Parsed, AllocError>
+fn read_header_events_and_fault(alloc: Global, lines: &Lines) -> Result<Parsed, AllocError>
     ensures { IfOk result (λ parsed. parsed ≡ script_of lines.now) }
 {
     let header = read_header(alloc, lines)?;
-    let EventsAndFault { events, fault } = Cursor::at(lines, header.end()).take_events(alloc)?;
+    let EventsAndFault { events, fault } = Cursor::at(
+        lines,
+        header.end(),
+    ).take_events_and_fault_if_any(alloc)?;
     Ok(Parsed {
         header,
         events,

@@ -2,8 +2,8 @@
 ghost use Rattle.std.specs.Prelude.{◌≡◌, [], ◌∷◌, ◌++◌, length, IfOk, OnOk};
 ghost use Rattle.pd_lex.specs.Places.{first_place};
 
-use crate::numbers::is_digits;
-use pd_lex::{Place, decimal_value};
+use crate::numbers::is_nonempty_digits;
+use pd_lex::{Place, saturating_decimal_value};
 use std::alloc::{AllocError, Global};
 use std::marker::Model;
 
@@ -56,17 +56,17 @@ impl HeaderKind {
 
     /// The kind of an option that is written so.
     #[tactic(auto, unfolding(crate::specs::Header::option_kind))]
-    pub fn of_option(text: &[u8]) -> HeaderKind
+    pub fn tolerance_or_other_option(text: &[u8]) -> HeaderKind
         ensures { result ≡ option_kind text.now }
     {
         if !text.starts_with(TOLERANCE) {
             return HeaderKind::OtherOption;
         }
         let digits = &text[TOLERANCE.len()..];
-        if !is_digits(digits) {
+        if !is_nonempty_digits(digits) {
             return HeaderKind::OtherOption;
         }
-        let number = decimal_value(digits);
+        let number = saturating_decimal_value(digits);
         if number > MAX_TOLERANCE {
             return HeaderKind::OtherOption;
         }

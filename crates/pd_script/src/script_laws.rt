@@ -1,7 +1,7 @@
 //! Laws of scripts.
 ghost use Rattle.pd_script.specs.Laws.{ScriptsAreGrammatical, NoOthersAreGrammatical, ItemsAreReadInOneWay, ItemsStandThere};
 
-use pd_lex::{law_items_after_tokens, law_longest_pieces};
+use pd_lex::{law_items_after_token_follow_its_end, law_tokens_are_exactly_longest_pieces};
 
 /// Three laws, and no work: what a text is read as is what the grammar gives for its tokens, it gives
 /// nothing else, and no tokens are read in two ways.
@@ -10,13 +10,13 @@ pub fn law_scripts_are_grammatical()
     ensures only { NoOthersAreGrammatical }
     ensures one_way { ItemsAreReadInOneWay }
 {
-    law_longest_pieces();
+    law_tokens_are_exactly_longest_pieces();
 }
 
 /// A law, and no work: from the place of an item with which an event or the end begins, in a text,
 /// the items are that one and those after it.
-pub fn law_items_stand_there()
+pub fn law_reading_resumes_at_item_place()
     ensures { ItemsStandThere }
 {
-    law_items_after_tokens();
+    law_items_after_token_follow_its_end();
 }

@@ -1,19 +1,19 @@
 //! Tests of a token by itself.
 ghost use Rattle.std.specs.Prelude.{◌≡◌};
-ghost use Rattle.pd_script.specs.Items.{is_any_int, is_word, is_symbol};
+ghost use Rattle.pd_script.specs.Items.{is_int_of_any_size, is_word, is_symbol};
 ghost use Rattle.pd_script.specs.Cursor.{shown};
 
 use pd_lex::{Token, TokenKind};
 
 /// An Int of any size.
-pub fn is_any_int(token: &Token) -> bool
-    ensures { result ≡ is_any_int (shown token.now) }
+pub fn is_int_of_any_size(token: &Token) -> bool
+    ensures { result ≡ is_int_of_any_size (shown token.now) }
 {
     matches!(token.kind, TokenKind::Int)
 }
 
 /// A word.
-pub fn is_word(token: &Token) -> bool
+pub fn is_any_word(token: &Token) -> bool
     ensures { result ≡ is_word (shown token.now) }
 {
     matches!(token.kind, TokenKind::Word)

@@ -8,7 +8,9 @@ ghost use Rattle.pd_seat.specs.Faults.{close_fault_text};
 use crate::faults::ShowFault;
 use crate::seat::Seat;
 use crate::shared_book::Held;
-use crate::verify::{are_acts_noted_with_each_seat, are_all_notes_below, has_each_seat_once};
+use crate::verify::{
+    are_acts_of_each_seat_as_noted, are_noted_seats_below_count, has_each_seat_once,
+};
 use pd_book::Book;
 
 /// Why a closing fails, and what it gives back: of `H` is what was to be closed.
@@ -22,12 +24,12 @@ pub enum CloseFault<H> {
 
 impl<H> CloseFault<H> {
     /// Its number and its name, as they are printed.
-    pub fn text(&self) -> &'static str
+    pub fn number_and_name(&self) -> &'static str
         ensures { result.now ≡ close_fault_text self.now }
     {
         match self {
             CloseFault::MissingSeat(..) => "13 MissingSeat",
-            CloseFault::Differs(_) => ShowFault::Differs.text(),
+            CloseFault::Differs(_) => ShowFault::Differs.number_and_name(),
         }
     }
 }
@@ -74,7 +76,7 @@ impl Held {
     fn has_just_acts_of_seats(&self, seats: &[Seat]) -> bool
         ensures { IsTrue result ↔ Accounts self.now seats.now }
     {
-        are_all_notes_below(self.notes.as_slice(), self.seats)
-            && are_acts_noted_with_each_seat(seats, self.notes.as_slice(), self.book.history())
+        are_noted_seats_below_count(self.notes.as_slice(), self.seats)
+            && are_acts_of_each_seat_as_noted(seats, self.notes.as_slice(), self.book.history())
     }
 }

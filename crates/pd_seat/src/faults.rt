@@ -17,7 +17,7 @@ pub enum ShowFault {
 
 impl ShowFault {
     /// Its number and its name, as they are printed.
-    pub fn text(self) -> &'static str
+    pub fn number_and_name(self) -> &'static str
         ensures { result.now ≡ show_fault_text self }
     {
         match self {
@@ -34,7 +34,7 @@ impl fmt::Display for ShowFault {
     ghost output = { λ fault. Some (show_fault_text fault) };
 
     fn fmt<W: fmt::Write>(&self, f: &mut fmt::Formatter<W>) -> fmt::Result {
-        f.write_str(self.text())
+        f.write_str(self.number_and_name())
     }
 }
 

@@ -9,7 +9,7 @@ use std::alloc::AllocError;
 ///
 /// # Errors
 /// `AllocError` where a growth is refused.
-pub fn reserve_notes_and_acts(
+pub fn reserve_many_notes_and_acts(
     notes: &mut Vec<usize>,
     more_notes: usize,
     own: &mut Vec<Act>,
@@ -33,7 +33,7 @@ pub fn push_act(acts: &mut Vec<Act>, act: Act)
 }
 
 /// Adds a note.
-pub fn push_note(notes: &mut Vec<usize>, number: usize)
+pub fn push_noted_seat_number(notes: &mut Vec<usize>, number: usize)
     requires { vec_len notes.old < vec_capacity notes.old }
     ensures past { reverse notes.new.items ≡ number ∷ reverse notes.old.items }
     ensures capacity { vec_capacity notes.new ≡ vec_capacity notes.old }
@@ -42,7 +42,7 @@ pub fn push_note(notes: &mut Vec<usize>, number: usize)
 }
 
 /// Drops a job.
-pub fn drop_open_job(open_jobs: &mut Vec<u64>, number: u64)
+pub fn remove_open_job_number(open_jobs: &mut Vec<u64>, number: u64)
     ensures { open_jobs.new.items ≡ filter (λ job. not (job == number)) open_jobs.old.items }
 {
     open_jobs.retain(|job| *job != number);
@@ -52,7 +52,7 @@ pub fn drop_open_job(open_jobs: &mut Vec<u64>, number: u64)
 ///
 /// # Errors
 /// `AllocError` where the job isn't open and a growth is refused.
-pub fn make_room_for_end(
+pub fn reserve_end_act_unless_job_open(
     own: &mut Vec<Act>,
     open_jobs: &[u64],
     number: u64,

@@ -12,9 +12,10 @@ ghost use Rattle.pd_seat.specs.Seats.{new_seats, IsNew, RecordsAct, Unless, is_u
 use crate::faults::ShowFault;
 use crate::seat::Seat;
 use crate::seat_lists::{
-    drop_open_job, make_room_for_end, push_act, push_note, reserve_notes_and_acts,
+    push_act, push_noted_seat_number, remove_open_job_number, reserve_end_act_unless_job_open,
+    reserve_many_notes_and_acts,
 };
-use crate::verify::are_acts_noted_with_seat;
+use crate::verify::are_seat_acts_as_noted;
 use pd_book::{Act, Book, BookFault, Done, FinishFault, Job, Report, Ruling, SharedEdit};
 use pd_settings::{Key, Settings, Value};
 use pd_text::{LineEdit, Lines, Name, Text};
@@ -89,11 +90,11 @@ impl Held {
     {
         let open = seat.open_jobs.len();
         let outstanding = self.book.outstanding_count();
-        reserve_notes_and_acts(&mut self.notes, outstanding + 1, &mut seat.own, open + 1)?;
+        reserve_many_notes_and_acts(&mut self.notes, outstanding + 1, &mut seat.own, open + 1)?;
         let (text, act) = text_and_add_act(*self.notes.allocator(), &name, lines)?;
         self.book.add_with_shared_text(name, text)?;
         self.book.law_invariant();
-        push_note(&mut self.notes, seat.number);
+        push_noted_seat_number(&mut self.notes, seat.number);
         push_act(&mut seat.own, act);
         Ok(())
     }
@@ -110,11 +111,11 @@ impl Held {
         ensures refuses { OnErr result ((self.new ≡ self.old) × (seat.new ≡ seat.old)) }
     {
         let edit = SharedEdit::from_copied_edit(*self.notes.allocator(), edit)?;
-        self.edit_with_shared_edit(seat, name, edit)
+        self.edit_and_note_act_with_shared_edit(seat, name, edit)
     }
 
     /// Edits the text of a script, where history and seat keep one edit.
-    fn edit_with_shared_edit(
+    fn edit_and_note_act_with_shared_edit(
         &mut self,
         seat: &mut Seat,
         name: &Name,
@@ -128,11 +129,11 @@ impl Held {
     {
         let open = seat.open_jobs.len();
         let outstanding = self.book.outstanding_count();
-        reserve_notes_and_acts(&mut self.notes, outstanding + 1, &mut seat.own, open + 1)?;
+        reserve_many_notes_and_acts(&mut self.notes, outstanding + 1, &mut seat.own, open + 1)?;
         let act = edit_act(&self.book, name, &edit)?;
         self.book.edit_with_shared_edit(name, edit)?;
         self.book.law_invariant();
-        push_note(&mut self.notes, seat.number);
+        push_noted_seat_number(&mut self.notes, seat.number);
         push_act(&mut seat.own, act);
         Ok(())
     }
@@ -150,11 +151,11 @@ impl Held {
     {
         let open = seat.open_jobs.len();
         let outstanding = self.book.outstanding_count();
-        reserve_notes_and_acts(&mut self.notes, outstanding + 1, &mut seat.own, open + 1)?;
-        let act = Act::Remove(self.book.interned_name(name)?);
+        reserve_many_notes_and_acts(&mut self.notes, outstanding + 1, &mut seat.own, open + 1)?;
+        let act = Act::Remove(self.book.share_stored_name_or_given(name)?);
         self.book.remove(name)?;
         self.book.law_invariant();
-        push_note(&mut self.notes, seat.number);
+        push_noted_seat_number(&mut self.notes, seat.number);
         push_act(&mut seat.own, act);
         Ok(())
     }
@@ -172,22 +173,22 @@ impl Held {
     {
         let open = seat.open_jobs.len();
         let outstanding = self.book.outstanding_count();
-        reserve_notes_and_acts(&mut self.notes, outstanding + 1, &mut seat.own, open + 1)?;
+        reserve_many_notes_and_acts(&mut self.notes, outstanding + 1, &mut seat.own, open + 1)?;
         self.book.set(key, value)?;
         let Some(key) = Key::from_name(key) else {
             return Ok(());
         };
         self.book.law_invariant();
-        push_note(&mut self.notes, seat.number);
+        push_noted_seat_number(&mut self.notes, seat.number);
         push_act(&mut seat.own, Act::Set(key, value));
         Ok(())
     }
 
     /// The act of the job that a start hands out, if a script waits.
-    fn next_start_act(&self) -> Result<Option<Act>, AllocError>
+    fn next_start_act_if_script_waits(&self) -> Result<Option<Act>, AllocError>
         ensures { IfOk result (λ act. act ≡ option_map (λ task. Act.Start task.number task.name) (next_job self.now.book.history)) }
     {
-        let Some(name) = self.book.next_start_name() else {
+        let Some(name) = self.book.name_of_next_script_to_start() else {
             return Ok(None);
         };
         Ok(Some(Act::Start(self.book.next_job_number(), name.share()?)))
@@ -209,15 +210,15 @@ impl Held {
         let open = seat.open_jobs.len();
         let outstanding = self.book.outstanding_count();
         // For the start, for the end of its job, and for the ends of the other jobs.
-        reserve_notes_and_acts(&mut self.notes, outstanding + 2, &mut seat.own, open + 2)?;
+        reserve_many_notes_and_acts(&mut self.notes, outstanding + 2, &mut seat.own, open + 2)?;
         seat.open_jobs.reserve(1)?;
-        let act = self.next_start_act()?;
+        let act = self.next_start_act_if_script_waits()?;
         let Some(job) = self.book.start()? else {
             return Ok(None);
         };
         self.book.law_invariant();
         if let Some(act) = act {
-            push_note(&mut self.notes, seat.number);
+            push_noted_seat_number(&mut self.notes, seat.number);
             push_act(&mut seat.own, act);
             seat.open_jobs.push_reserved(job.number());
         }
@@ -240,21 +241,21 @@ impl Held {
         if !self.book.is_outstanding(done.number()) {
             return Err(FinishFault::NoSuchJob);
         }
-        make_room_for_end(&mut seat.own, seat.open_jobs.as_slice(), done.number())?;
+        reserve_end_act_unless_job_open(&mut seat.own, seat.open_jobs.as_slice(), done.number())?;
         let ruling = self.book.finish(done)?;
         self.book.law_invariant();
-        push_note(&mut self.notes, seat.number);
+        push_noted_seat_number(&mut self.notes, seat.number);
         push_act(&mut seat.own, Act::Finish(done.number(), ruling));
-        drop_open_job(&mut seat.open_jobs, done.number());
+        remove_open_job_number(&mut seat.open_jobs, done.number());
         Ok(ruling)
     }
 
-    /// Hands out a track that is kept no longer, as `Book::take_evicted` does. No clause says which it is, or whether there is
-    /// one: the value of a `Held` has the tracks that are kept, and not those that are to be freed.
-    pub fn take_evicted(&mut self) -> Option<Track>
+    /// Hands out a track that is kept no longer, as `Book::take_evicted_track_if_any` does. No clause says which it is,
+    /// or whether there is one: the value of a `Held` has the tracks that are kept, and not those that are to be freed.
+    pub fn take_evicted_track_if_any(&mut self) -> Option<Track>
         ensures { self.new ≡ self.old }
     {
-        self.book.take_evicted()
+        self.book.take_evicted_track_if_any()
     }
 
     /// Gives up an outstanding job.
@@ -273,12 +274,12 @@ impl Held {
         if !self.book.is_outstanding(number) {
             return Err(FinishFault::NoSuchJob);
         }
-        make_room_for_end(&mut seat.own, seat.open_jobs.as_slice(), number)?;
+        reserve_end_act_unless_job_open(&mut seat.own, seat.open_jobs.as_slice(), number)?;
         self.book.abandon(number)?;
         self.book.law_invariant();
-        push_note(&mut self.notes, seat.number);
+        push_noted_seat_number(&mut self.notes, seat.number);
         push_act(&mut seat.own, Act::Abandon(number));
-        drop_open_job(&mut seat.open_jobs, number);
+        remove_open_job_number(&mut seat.open_jobs, number);
         Ok(())
     }
 
@@ -310,7 +311,7 @@ impl Held {
         ensures noted { length self.now.notes ≡ length self.now.book.history.past }
     {
         seat.longest_shown <= self.notes.len()
-            && are_acts_noted_with_seat(seat, self.notes.as_slice(), self.book.history())
+            && are_seat_acts_as_noted(seat, self.notes.as_slice(), self.book.history())
     }
 
     /// How many rows of the report are pending.
@@ -324,7 +325,7 @@ impl Held {
     pub fn has_waiting_script(&self) -> bool
         ensures { result ≡ is_some (next self.now.book.history.past) }
     {
-        self.book.next_start_name().is_some()
+        self.book.name_of_next_script_to_start().is_some()
     }
 }
 
@@ -342,5 +343,5 @@ fn text_and_add_act(alloc: Global, name: &Name, lines: Lines) -> Result<(Text, A
 fn edit_act(book: &Book, name: &Name, edit: &SharedEdit) -> Result<Act, AllocError>
     ensures { IfOk result (λ act. act ≡ Act.Edit name.now edit.now) }
 {
-    Ok(Act::Edit(book.interned_name(name)?, edit.share()?))
+    Ok(Act::Edit(book.share_stored_name_or_given(name)?, edit.share()?))
 }

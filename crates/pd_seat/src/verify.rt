@@ -7,7 +7,12 @@ use pd_book::Act;
 use pd_settings::{Key, Value};
 
 /// Whether the acts noted with this number are these.
-fn are_acts_noted_with_number(number: usize, notes: &[usize], acts: &[Act], own: &[Act]) -> bool
+fn are_own_acts_as_noted_with_number(
+    number: usize,
+    notes: &[usize],
+    acts: &[Act],
+    own: &[Act],
+) -> bool
     requires { length notes.now ≡ length acts.now }
     ensures { IsTrue result ↔ (made_by number notes.now acts.now ≡ own.now) }
 {
@@ -29,7 +34,7 @@ fn are_acts_noted_with_number(number: usize, notes: &[usize], acts: &[Act], own:
                 return false;
             };
             rest = others;
-            if !is_same(first, act) {
+            if !is_same_act(first, act) {
                 return false;
             }
         }
@@ -39,15 +44,15 @@ fn are_acts_noted_with_number(number: usize, notes: &[usize], acts: &[Act], own:
 
 /// Whether both are the same act. Sets to a truth value, of which there may be many in a row, are compared in place.
 #[inline(always)]
-fn is_same(one: &Act, other: &Act) -> bool
+fn is_same_act(one: &Act, other: &Act) -> bool
     ensures { IsTrue result ↔ (one.now ≡ other.now) }
 {
-    is_same_boolean_set(one, other) || is_same_act_of_any_kind(one, other)
+    is_same_boolean_setting_act(one, other) || is_same_act_of_any_kind(one, other)
 }
 
 /// Whether both set one setting to one truth value.
 #[inline(always)]
-fn is_same_boolean_set(one: &Act, other: &Act) -> bool
+fn is_same_boolean_setting_act(one: &Act, other: &Act) -> bool
     ensures { IsTrue result → one.now ≡ other.now }
 {
     match (one, other) {
@@ -75,20 +80,20 @@ fn is_same_key(one: Key, other: Key) -> bool
 }
 
 /// Whether the acts noted with a seat's number are its own.
-pub fn are_acts_noted_with_seat(seat: &Seat, notes: &[usize], acts: &[Act]) -> bool
+pub fn are_seat_acts_as_noted(seat: &Seat, notes: &[usize], acts: &[Act]) -> bool
     requires { length notes.now ≡ length acts.now }
     ensures { IsTrue result ↔ (made_by seat.now.number (reverse notes.now) (reverse acts.now) ≡ seat.now.own) }
 {
-    are_acts_noted_with_number(seat.number, notes, acts, seat.own.as_slice())
+    are_own_acts_as_noted_with_number(seat.number, notes, acts, seat.own.as_slice())
 }
 
 /// Whether that is so of each of these seats.
-pub fn are_acts_noted_with_each_seat(seats: &[Seat], notes: &[usize], acts: &[Act]) -> bool
+pub fn are_acts_of_each_seat_as_noted(seats: &[Seat], notes: &[usize], acts: &[Act]) -> bool
     requires { length notes.now ≡ length acts.now }
     ensures { IsTrue result ↔ All (λ seat. made_by seat.number (reverse notes.now) (reverse acts.now) ≡ seat.own) seats.now }
 {
     for seat in seats {
-        if !are_acts_noted_with_seat(seat, notes, acts) {
+        if !are_seat_acts_as_noted(seat, notes, acts) {
             return false;
         }
     }
@@ -103,27 +108,27 @@ pub fn has_each_seat_once(seats: &[Seat], count: usize) -> bool
         return false;
     }
     for number in 0..count {
-        if seat_count_of_number(seats, number) != 1 {
+        if count_seats_with_number(seats, number) != 1 {
             return false;
         }
     }
     true
 }
 
-fn seat_count_of_number(seats: &[Seat], number: usize) -> usize
+fn count_seats_with_number(seats: &[Seat], number: usize) -> usize
     ensures { result ≡ count_by (λ seat. seat.number == number) seats.now }
 {
     seats.iter().filter(|seat| seat.number == number).count()
 }
 
 /// Whether all notes are below the count.
-pub fn are_all_notes_below(notes: &[usize], count: usize) -> bool
+pub fn are_noted_seats_below_count(notes: &[usize], count: usize) -> bool
     ensures { IsTrue result ↔ All (λ note. note < count) (reverse notes.now) }
 {
-    are_notes_below(notes, count)
+    are_noted_seat_numbers_below(notes, count)
 }
 
-fn are_notes_below(notes: &[usize], count: usize) -> bool
+fn are_noted_seat_numbers_below(notes: &[usize], count: usize) -> bool
     ensures { IsTrue result ↔ All (λ note. note < count) notes.now }
 {
     notes.iter().all(|note| *note < count)

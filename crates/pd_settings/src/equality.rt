@@ -13,11 +13,11 @@ impl Settings {
     pub fn is_same(&self, other: &Settings) -> bool
         ensures { IsTrue result ↔ (self.now ≡ other.now) }
     {
-        self.is_same_everywhere(other)
+        self.has_every_setting_equal(other)
     }
 
     /// The same, setting by setting: all are compared, since most often all are equal.
-    fn is_same_everywhere(&self, other: &Settings) -> bool
+    fn has_every_setting_equal(&self, other: &Settings) -> bool
         ensures { result ≡ is_same self.now other.now }
     {
         let mut same = true;
@@ -54,13 +54,13 @@ impl Settings {
         ensures test { result ≡ agrees consulted.now self.now other.now }
         ensures fields { IsTrue result ↔ Agree consulted.now self.now other.now }
     {
-        self.agrees_on_each_key(other, consulted)
+        self.agrees_on_each_consulted_key(other, consulted)
     }
 
-    fn agrees_on_each_key(&self, other: &Settings, consulted: &SettingSet) -> bool
+    fn agrees_on_each_consulted_key(&self, other: &Settings, consulted: &SettingSet) -> bool
         ensures { result ≡ agrees consulted.now self.now other.now }
     {
-        if self.is_same_everywhere(other) {
+        if self.has_every_setting_equal(other) {
             return true;
         }
         Key::ALL

@@ -16,7 +16,7 @@ pub enum SettingsFault {
 
 impl SettingsFault {
     /// Its number and its name, as they are printed.
-    pub fn text(self) -> &'static str
+    pub fn number_and_name(self) -> &'static str
         ensures { result.now ≡ fault_text self }
     {
         match self {
@@ -33,6 +33,6 @@ impl fmt::Display for SettingsFault {
     ghost output = { λ fault. Some (fault_text fault) };
 
     fn fmt<W: fmt::Write>(&self, f: &mut fmt::Formatter<W>) -> fmt::Result {
-        f.write_str(self.text())
+        f.write_str(self.number_and_name())
     }
 }

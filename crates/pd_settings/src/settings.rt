@@ -135,37 +135,37 @@ impl Settings {
     /// The settings with the key's field replaced by the value; None where the key doesn't take the value.
     ///
     /// Takes no memory.
-    pub fn with_value_at(&self, key: Key, value: Value) -> Option<Settings>
+    pub fn with_allowed_value_or_none(&self, key: Key, value: Value) -> Option<Settings>
         ensures value { result ≡ replaced self.now key value }
         ensures accepted { IsSome result ↔ Allows (allowed_values_of key) value }
         ensures changed { IfSome result (ChangesOnly self.now key value) }
     {
-        self.with_value_by_kind(key, value)
+        self.with_value_by_kind_if_allowed(key, value)
     }
 
-    fn with_value_by_kind(&self, key: Key, value: Value) -> Option<Settings>
+    fn with_value_by_kind_if_allowed(&self, key: Key, value: Value) -> Option<Settings>
         ensures { result ≡ replaced self.now key value }
     {
         match value {
-            Value::Number(number) => self.with_checked_number(key, number),
-            Value::Boolean(truth) => self.with_boolean(key, truth),
-            Value::WindowRule(window) => self.with_window_rule(key, window),
-            Value::Algorithm(algorithm) => self.with_algorithm(key, algorithm),
+            Value::Number(number) => self.with_number_if_in_allowed_range(key, number),
+            Value::Boolean(truth) => self.with_boolean_if_boolean_key(key, truth),
+            Value::WindowRule(window) => self.with_window_rule_if_its_key(key, window),
+            Value::Algorithm(algorithm) => self.with_algorithm_if_its_key(key, algorithm),
             Value::Other => None,
         }
     }
 
     #[tactic(auto, using(crate::proofs::Allowed::allowed_outside))]
-    fn with_checked_number(&self, key: Key, number: u64) -> Option<Settings>
+    fn with_number_if_in_allowed_range(&self, key: Key, number: u64) -> Option<Settings>
         ensures { result ≡ replaced self.now key (Number number) }
     {
         if !key.allowed_values().contains_number(number) {
             return None;
         }
-        self.with_number(key, number)
+        self.with_number_if_number_key(key, number)
     }
 
-    fn with_number(&self, key: Key, number: u64) -> Option<Settings>
+    fn with_number_if_number_key(&self, key: Key, number: u64) -> Option<Settings>
         requires { Allows (allowed_values_of key) (Number number) }
         ensures { result ≡ replaced self.now key (Number number) }
     {
@@ -189,7 +189,7 @@ impl Settings {
         }
     }
 
-    fn with_boolean(&self, key: Key, truth: bool) -> Option<Settings>
+    fn with_boolean_if_boolean_key(&self, key: Key, truth: bool) -> Option<Settings>
         ensures { result ≡ replaced self.now key (Boolean truth) }
     {
         match key {
@@ -201,7 +201,7 @@ impl Settings {
         }
     }
 
-    fn with_window_rule(&self, key: Key, window: InitialWindow) -> Option<Settings>
+    fn with_window_rule_if_its_key(&self, key: Key, window: InitialWindow) -> Option<Settings>
         ensures { result ≡ replaced self.now key (WindowRule window) }
     {
         match key {
@@ -210,7 +210,7 @@ impl Settings {
         }
     }
 
-    fn with_algorithm(&self, key: Key, algorithm: RecoveryAlgorithm) -> Option<Settings>
+    fn with_algorithm_if_its_key(&self, key: Key, algorithm: RecoveryAlgorithm) -> Option<Settings>
         ensures { result ≡ replaced self.now key (Algorithm algorithm) }
     {
         match key {
@@ -236,7 +236,7 @@ impl Settings {
         ensures { result ≡ with_value self.now key.now value }
     {
         let key = Key::from_name(key).ok_or(SettingsFault::UnknownKey)?;
-        self.with_value_at(key, value)
+        self.with_allowed_value_or_none(key, value)
             .ok_or(SettingsFault::BadValue)
     }
 
@@ -261,7 +261,7 @@ impl Settings {
     {
         let mut settings = *self;
         for (key, value) in table {
-            settings = settings.with(key.as_bytes(), Value::from_toml(value))?;
+            settings = settings.with(key.as_bytes(), Value::from_toml_or_other(value))?;
         }
         Ok(settings)
     }

@@ -24,17 +24,17 @@ pub enum Value {
 
 impl Value {
     /// The value of a word: the rule that it names, or nothing that a setting takes.
-    pub fn from_word(word: &[u8]) -> Value
+    pub fn from_word_or_other(word: &[u8]) -> Value
         ensures { result ≡ word_value word.now }
     {
         match InitialWindow::from_word(word) {
             Some(window) => Value::WindowRule(window),
-            None => Value::from_algorithm_word(word),
+            None => Value::from_algorithm_word_or_other(word),
         }
     }
 
     /// The value of a word that names no rule for the initial window.
-    fn from_algorithm_word(word: &[u8]) -> Value
+    fn from_algorithm_word_or_other(word: &[u8]) -> Value
         ensures { result ≡ algorithm_word_value word.now }
     {
         match RecoveryAlgorithm::from_word(word) {
@@ -44,7 +44,7 @@ impl Value {
     }
 
     /// The value of a TOML value: a whole number from 0 on, a truth value, a word, or none of these.
-    pub fn from_toml(value: &toml::Value) -> Value
+    pub fn from_toml_or_other(value: &toml::Value) -> Value
         ensures { result ≡ value_of (view value.now) }
     {
         match value {
@@ -53,7 +53,7 @@ impl Value {
                 Err(_) => Value::Other,
             },
             toml::Value::Boolean(truth) => Value::Boolean(*truth),
-            toml::Value::String(word) => Value::from_word(word.as_bytes()),
+            toml::Value::String(word) => Value::from_word_or_other(word.as_bytes()),
             _ => Value::Other,
         }
     }

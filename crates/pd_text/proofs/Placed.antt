@@ -6,7 +6,7 @@ use Rattle.std.proofs.lemmas.List.{take-append-le, drop-append-le, drop-take, dr
 use Rattle.std.proofs.lemmas.List.Folds.{list_all-append}
 use Rattle.std.proofs.lemmas.List.Sums.{sum_by-append, sum_by-cons}
 use Rattle.std.proofs.lemmas.Bool.Decides.{nat_tests}
-use Rattle.pd_text.specs.Text.{AreLines, is_line, octets_of}
+use Rattle.pd_text.specs.Text.{AreLines, has_no_newline, octets_of}
 use Rattle.pd_text.specs.PackedLines.{octets_between, lines_from, are_ends, start_at}
 
 pub both : (a b : Bool) → (a && b) ≡ true → (a ≡ true) × (b ≡ true)
@@ -188,7 +188,7 @@ pub ends_after : (octets more : List ℕ) (ends others : List ℕ) → are_ends 
 ends_after octets more ends others h k = append_ends 0 (length octets) (length (octets ++ more)) ends others h k
 
 pub lines_more : (lines others : List (List ℕ)) → AreLines lines → AreLines others → AreLines (lines ++ others)
-lines_more lines others h k = rw (list_all-append is_line lines others, h, k) refl
+lines_more lines others h k = rw (list_all-append has_no_newline lines others, h, k) refl
 
 -- what a list of lines keeps, with others put after them
 pub kept_after : (octets more all : List ℕ) (ends others places : List ℕ) (lines : List (List ℕ)) → all ≡ octets ++ more → places ≡ ends ++ others
@@ -256,13 +256,13 @@ all_taken : (lines : List (List ℕ)) (n : ℕ) → AreLines lines → AreLines 
 all_taken lines zero h = refl
 all_taken [] (suc n) h = refl
 all_taken (x ∷ xs) (suc n) h =
-    let parts = both (is_line x) (list_all is_line xs) h in
+    let parts = both (has_no_newline x) (list_all has_no_newline xs) h in
     rw (parts.0, all_taken xs n parts.1) refl
 
 all_dropped : (lines : List (List ℕ)) (n : ℕ) → AreLines lines → AreLines (drop n lines)
 all_dropped lines zero h = h
 all_dropped [] (suc n) h = refl
-all_dropped (x ∷ xs) (suc n) h = all_dropped xs n (both (is_line x) (list_all is_line xs) h).1
+all_dropped (x ∷ xs) (suc n) h = all_dropped xs n (both (has_no_newline x) (list_all has_no_newline xs) h).1
 
 pub some_are_lines : (lines : List (List ℕ)) (n m : ℕ) → AreLines lines → AreLines (take n (drop m lines))
 some_are_lines lines n m h = all_taken (drop m lines) n (all_dropped lines m h)

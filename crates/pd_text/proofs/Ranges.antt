@@ -3,17 +3,17 @@ use Rattle.std.proofs.Common.{◌≡◌, ℕ, zero, suc, ◌+◌, ◌-◌, ◌�
 use Rattle.std.specs.List.{list_all}
 use Rattle.std.proofs.lemmas.List.Sums.{sum_by-append}
 use Rattle.std.proofs.lemmas.List.{take-append-drop, length-take, length-drop}
-use Rattle.pd_text.specs.Text.{AreLines, is_line, octets_of}
+use Rattle.pd_text.specs.Text.{AreLines, has_no_newline, octets_of}
 use Rattle.pd_text.proofs.Placed.{both, octets_more}
 
-pub is_line_at : (lines : List (List ℕ)) (i : ℕ) (line : List ℕ) → slice_get lines i ≡ Some line → AreLines lines → is_line line ≡ true
+pub is_line_at : (lines : List (List ℕ)) (i : ℕ) (line : List ℕ) → slice_get lines i ≡ Some line → AreLines lines → has_no_newline line ≡ true
 is_line_at [] i line h a = absurd cc
 is_line_at (x ∷ lines) zero line h a =
     let e : x ≡ line = cc in
-    let parts : (is_line x ≡ true) × (list_all is_line lines ≡ true) = both (is_line x) (list_all is_line lines) a in
+    let parts : (has_no_newline x ≡ true) × (list_all has_no_newline lines ≡ true) = both (has_no_newline x) (list_all has_no_newline lines) a in
     rw (← e) parts.0
 is_line_at (x ∷ lines) (suc i) line h a =
-    let parts : (is_line x ≡ true) × (list_all is_line lines ≡ true) = both (is_line x) (list_all is_line lines) a in
+    let parts : (has_no_newline x ≡ true) × (list_all has_no_newline lines ≡ true) = both (has_no_newline x) (list_all has_no_newline lines) a in
     is_line_at lines i line h parts.1
 
 one_taken : (lines : List (List ℕ)) (n : ℕ) (line : List ℕ) → slice_get lines n ≡ Some line → take (suc n) lines ≡ take n lines ++ line ∷ []

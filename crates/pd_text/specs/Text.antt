@@ -4,12 +4,12 @@ use Rattle.std.specs.List.{list_all, common_prefix_len}
 use Rattle.std.specs.Str.{bytes_eq}
 
 -- a line holds no newline, the octet 10
-abbrev pub is_line : List ℕ → Bool
-is_line octets = list_all (λ octet. not (octet == 10)) octets
+abbrev pub has_no_newline : List ℕ → Bool
+has_no_newline octets = list_all (λ octet. not (octet == 10)) octets
 
 -- each of these is a line
 abbrev pub AreLines : List (List ℕ) → Type 0
-AreLines lines = IsTrue (list_all is_line lines)
+AreLines lines = IsTrue (list_all has_no_newline lines)
 
 -- how many of the first lines of two texts are equal
 abbrev pub common_prefix : List (List ℕ) → List (List ℕ) → ℕ

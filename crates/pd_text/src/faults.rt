@@ -18,7 +18,7 @@ pub enum TextFault {
 
 impl TextFault {
     /// Its number and its name, as they are printed.
-    pub fn text(self) -> &'static str
+    pub fn number_and_name(self) -> &'static str
         ensures { result.now ≡ fault_text self }
     {
         match self {
@@ -36,7 +36,7 @@ impl fmt::Display for TextFault {
     ghost output = { λ fault. Some (fault_text fault) };
 
     fn fmt<W: fmt::Write>(&self, f: &mut fmt::Formatter<W>) -> fmt::Result {
-        f.write_str(self.text())
+        f.write_str(self.number_and_name())
     }
 }
 

@@ -1,10 +1,12 @@
 //! Lists of lines, of any length.
 ghost use Rattle.std.specs.Prelude.{◌≡◌, ◌+◌, ◌-◌, ◌^◌, ◌≤◌, ◌<◌, ◌++◌, ◌∷◌, ◌↔◌, [], Some, length, take, drop, option_copied, slice_get, IfOk, OnOk, OnErr, IsTrue, if◌then◌else◌};
-ghost use Rattle.pd_text.specs.Text.{common_prefix, is_line, octets_of, AreLines};
+ghost use Rattle.pd_text.specs.Text.{common_prefix, has_no_newline, octets_of, AreLines};
 ghost use Rattle.pd_text.specs.PackedLines.{lines_from, are_ends};
 
 use crate::limits::MAX_LINES;
-use crate::packed_lines::{PackedLines, push_shifted_ends, u32_offset, u32_offset_after};
+use crate::packed_lines::{
+    PackedLines, push_shifted_ends, u32_offset_after, u32_offset_or_alloc_error,
+};
 use std::alloc::{AllocError, Global};
 use std::marker::Model;
 
@@ -49,7 +51,7 @@ impl LineList {
     /// `AllocError` where a growth is refused, or the lines would have 4,294,967,296 octets or more; the list is as before
     /// then.
     pub fn push(&mut self, line: &[u8]) -> Result<(), AllocError>
-        requires { IsTrue (is_line line.now) }
+        requires { IsTrue (has_no_newline line.now) }
         ensures ok { OnOk result (self.new ≡ self.old ++ line.now ∷ []) }
         ensures same { OnErr result (self.new ≡ self.old) }
     {
@@ -64,11 +66,11 @@ impl LineList {
     ///
     /// # Errors
     /// As for `push`; the list is as before then.
-    pub fn push_if_line(&mut self, octets: &[u8]) -> Result<(), AllocError>
-        ensures ok { OnOk result (self.new ≡ (if is_line octets.now then self.old ++ octets.now ∷ [] else self.old)) }
+    pub fn push_unless_newline_inside(&mut self, octets: &[u8]) -> Result<(), AllocError>
+        ensures ok { OnOk result (self.new ≡ (if has_no_newline octets.now then self.old ++ octets.now ∷ [] else self.old)) }
         ensures same { OnErr result (self.new ≡ self.old) }
     {
-        if is_line(octets) {
+        if has_no_newline(octets) {
             self.push(octets)
         } else {
             Ok(())
@@ -98,7 +100,7 @@ impl LineList {
     }
 
     /// How many octets its lines have, without their newlines.
-    pub fn octet_count(&self) -> usize
+    pub fn octet_count_without_newlines(&self) -> usize
         ensures { result + length self.now ≡ octets_of self.now }
     {
         self.octets.len()
@@ -131,12 +133,12 @@ impl LineList {
     pub fn is_same(&self, other: &LineList) -> bool
         ensures { IsTrue result ↔ (self.now ≡ other.now) }
     {
-        self.has_same_lines_in_place(other)
+        self.has_equal_octets_and_ends(other)
             || (self.len() == other.len() && self.same_front(other) == self.len())
     }
 
     /// Whether both have the same octets at the same places.
-    fn has_same_lines_in_place(&self, other: &LineList) -> bool
+    fn has_equal_octets_and_ends(&self, other: &LineList) -> bool
         ensures { IsTrue result → self.now ≡ other.now }
     {
         self.octets == other.octets && self.ends == other.ends
@@ -166,7 +168,7 @@ impl LineList {
         let before_last = most.saturating_sub(1);
         if self
             .packed_lines()
-            .has_same_lines_in_place(&other.packed_lines(), 0, before_last)
+            .has_same_lines_in_place_between(&other.packed_lines(), 0, before_last)
         {
             return before_last;
         }
@@ -187,7 +189,7 @@ impl LineList {
             if step <= most - same
                 && self
                     .packed_lines()
-                    .has_same_lines_in_place(&other.packed_lines(), same, same + step)
+                    .has_same_lines_in_place_between(&other.packed_lines(), same, same + step)
             {
                 same += step;
             }
@@ -196,7 +198,7 @@ impl LineList {
     }
 
     /// How many octets lines `from` up to `to` have, counted from 0, without their newlines.
-    pub fn octet_count_between(&self, from: usize, to: usize) -> usize
+    pub fn octet_count_between_without_newlines(&self, from: usize, to: usize) -> usize
         requires { (from ≤ to) × (to ≤ length self.now) }
         ensures { result + (to - from) ≡ octets_of (take (to - from) (drop from self.now)) }
     {
@@ -208,7 +210,7 @@ impl LineList {
     ///
     /// # Errors
     /// As for `push`; the list is as before then.
-    pub fn push_lines(
+    pub fn push_line_range_of_other(
         &mut self,
         list: &LineList,
         first: usize,
@@ -219,8 +221,8 @@ impl LineList {
     {
         let lines = list.packed_lines();
         let octets = lines.octets_of_lines(first, end);
-        let from = u32_offset(lines.line_start(first))?;
-        let at = u32_offset(self.octets.len())?;
+        let from = u32_offset_or_alloc_error(lines.line_start(first))?;
+        let at = u32_offset_or_alloc_error(self.octets.len())?;
         let _last = u32_offset_after(self.octets.len(), octets.len())?;
         self.ends.reserve(end - first)?;
         self.octets.extend_from_slice(octets)?;
@@ -269,8 +271,8 @@ impl LineList {
 }
 
 /// Whether octets hold no newline.
-fn is_line(octets: &[u8]) -> bool
-    ensures { result ≡ is_line octets.now }
+fn has_no_newline(octets: &[u8]) -> bool
+    ensures { result ≡ has_no_newline octets.now }
 {
     octets.iter().all(|octet| *octet != b'\n')
 }

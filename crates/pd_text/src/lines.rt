@@ -4,7 +4,7 @@ ghost use Rattle.pd_text.specs.Text.{common_prefix, AreLines, FitsText};
 ghost use Rattle.pd_text.specs.Edit.{is_edit_in_range, edited, edit_refusal};
 
 use crate::faults::TextFault;
-use crate::limits::{TextSize, edited_size, fits};
+use crate::limits::{TextSize, are_lines_within_text_limits, counts_after_edit_if_within_limits};
 use crate::line_edit::LineEdit;
 use crate::line_list::LineList;
 use std::alloc::AllocError;
@@ -38,7 +38,7 @@ impl Lines {
         ensures large { (result ≡ Err TextFault.TooLarge) ↔ ¬ FitsText list }
         ensures only { IfErr result (λ e. e ≡ TextFault.TooLarge) }
     {
-        if fits(&list) {
+        if are_lines_within_text_limits(&list) {
             Ok(Lines { list })
         } else {
             Err(TextFault::TooLarge)
@@ -102,10 +102,10 @@ impl Lines {
         if !self.is_edit_in_range(edit) {
             return Err(TextFault::BadRange);
         }
-        let Some(size) = edited_size(&self.list, edit) else {
+        let Some(size) = counts_after_edit_if_within_limits(&self.list, edit) else {
             return Err(TextFault::TooLarge);
         };
-        let list = lines_after_edit(&self.list, edit, size)?;
+        let list = lines_after_checked_edit(&self.list, edit, size)?;
         Ok(Lines { list })
     }
 
@@ -118,7 +118,7 @@ impl Lines {
 }
 
 /// The lines after an edit that lies within them, where they are of this size.
-fn lines_after_edit(
+fn lines_after_checked_edit(
     list: &LineList,
     edit: &LineEdit,
     size: TextSize,
@@ -131,8 +131,8 @@ fn lines_after_edit(
     let after = first + edit.remove;
     let mut new = LineList::new(list.allocator());
     new.reserve(size.lines, size.octets)?;
-    new.push_lines(list, 0, first)?;
-    new.push_lines(&edit.insert, 0, edit.insert.len())?;
-    new.push_lines(list, after, len)?;
+    new.push_line_range_of_other(list, 0, first)?;
+    new.push_line_range_of_other(&edit.insert, 0, edit.insert.len())?;
+    new.push_line_range_of_other(list, after, len)?;
     Ok(new)
 }

@@ -45,7 +45,12 @@ impl<'a> PackedLines<'a> {
     }
 
     /// Whether lines `from` up to `to` are at the same places in both, with the same octets.
-    pub fn has_same_lines_in_place(&self, other: &PackedLines<'_>, from: usize, to: usize) -> bool
+    pub fn has_same_lines_in_place_between(
+        &self,
+        other: &PackedLines<'_>,
+        from: usize,
+        to: usize,
+    ) -> bool
         requires ends { IsTrue (are_ends 0 (length self.now.octets.now) self.now.ends.now) }
         requires others { IsTrue (are_ends 0 (length other.now.octets.now) other.now.ends.now) }
         requires order { from ≤ to }
@@ -72,7 +77,7 @@ impl<'a> PackedLines<'a> {
 ///
 /// # Errors
 /// `AllocError` where 32 bits don't count so many.
-pub fn u32_offset(octets: usize) -> Result<u32, AllocError>
+pub fn u32_offset_or_alloc_error(octets: usize) -> Result<u32, AllocError>
     ensures { IfOk result (λ offset. offset ≡ octets) }
 {
     match u32::try_from(octets) {
@@ -90,7 +95,7 @@ pub fn u32_offset_after(octets: usize, more: usize) -> Result<u32, AllocError>
     ensures small { IfOk result (λ _. octets + more < 2 ^ 32) }
 {
     match octets.checked_add(more) {
-        Some(all) => u32_offset(all),
+        Some(all) => u32_offset_or_alloc_error(all),
         None => Err(AllocError),
     }
 }

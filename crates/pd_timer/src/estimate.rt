@@ -55,7 +55,7 @@ impl Estimate {
 
     /// The timeout that the estimate gives with a clock of this granularity, in microseconds, before it is held
     /// within its bounds (RFC 6298, sections 2.2 and 2.3).
-    pub fn timeout(self, granularity_us: u64) -> u128
+    pub fn rto_before_clamp(self, granularity_us: u64) -> u128
         requires { IsEstimate self }
         ensures { result ≡ timeout_of granularity_us self }
     {

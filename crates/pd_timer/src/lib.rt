@@ -14,7 +14,7 @@
 //!
 //! RTO lies between its bounds, and these in the ranges of their settings: `IsBounded`
 //! (specs/Rto.antt). An expiry comes at most `max_rto_us` after the timer was started, and never
-//! lowers RTO: the law `law_timers`.
+//! lowers RTO: the law `law_rto_bounded_and_expiries_back_off`.
 //!
 //! Why it is so:
 //! - No clock is read, and nobody is woken. Each call gets the present time, and the next expiry is
@@ -32,5 +32,5 @@ mod laws;
 mod timer;
 
 pub use estimate::{Estimate, Timeout};
-pub use laws::law_timers;
+pub use laws::law_rto_bounded_and_expiries_back_off;
 pub use timer::Rto;

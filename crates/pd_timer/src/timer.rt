@@ -97,13 +97,13 @@ impl Rto {
 
     /// How the timeout comes from what was measured, with a clock of this granularity in microseconds; nothing before any
     /// measurement.
-    pub fn rto_derivation(&self, granularity_us: u64) -> Option<Timeout>
+    pub fn rto_derivation_before_backoff(&self, granularity_us: u64) -> Option<Timeout>
         ensures { result ≡ timeout_in granularity_us self.now }
     {
         match self.estimate {
             None => None,
             Some(estimate) => {
-                let computed_us = estimate.timeout(granularity_us);
+                let computed_us = estimate.rto_before_clamp(granularity_us);
                 Some(Timeout {
                     estimate,
                     granularity_us: estimate.granularity_if_above_variation(granularity_us),
@@ -126,7 +126,7 @@ impl Rto {
         };
         self.estimate = Some(estimate);
         self.rto = clamp(
-            estimate.timeout(granularity_us),
+            estimate.rto_before_clamp(granularity_us),
             self.min_rto_us,
             self.max_rto_us,
         );

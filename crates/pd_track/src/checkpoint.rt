@@ -26,7 +26,7 @@ impl Checkpoint {
     ///
     /// # Errors
     /// `AllocError` where memory for it is refused, and then nothing is claimed of what the list holds.
-    pub(crate) fn push_copy(
+    pub(crate) fn push_copy_of_run_state(
         checkpoints: &mut SharedList<Checkpoint>,
         state: &RunState,
     ) -> Result<(), AllocError>
@@ -39,7 +39,7 @@ impl Checkpoint {
     }
 
     /// A state that nothing else holds.
-    pub(crate) fn of(state: RunState) -> Checkpoint
+    pub(crate) fn from_owned_run_state(state: RunState) -> Checkpoint
         ensures { result ≡ state }
     {
         Checkpoint { state }

@@ -8,11 +8,11 @@ use crate::checkpoint::Checkpoint;
 use crate::job::Job;
 use crate::progress::Progress;
 use crate::result::{Done, Unfinished};
-use crate::start_point::{begin_run, read_job};
+use crate::start_point::{begin_run_at_start_or_checkpoint, read_job_text_reusing_track};
 use crate::task::Task;
 use crate::track::Track;
-use pd_reparse::{Reading, Reread, SharedList, law_readings};
-use pd_run::{RunState, Stepper, Verdict, law_runs_only_use};
+use pd_reparse::{Reading, Reread, SharedList, law_readings_are_scripts};
+use pd_run::{RunState, Stepper, Verdict, law_runs_use_only_consulted_settings};
 use std::alloc::{AllocError, Global};
 
 /// The verdict of a run, the reading of its text, and the states on its way.
@@ -74,8 +74,8 @@ fn run<S: Stepper>(alloc: Global, job: &Job, stepper: &mut S) -> Result<JobOutco
     ensures steps { OnOk result (S.counted stepper.new ≡ S.counted stepper.old + steps job.now) }
     ensures few { OnOk result (S.counted stepper.new ≤ S.counted stepper.old + 4096) }
 {
-    law_readings();
-    let Reread { reading, kept } = read_job(alloc, job)?;
+    law_readings_are_scripts();
+    let Reread { reading, kept } = read_job_text_reusing_track(alloc, job)?;
     if let Some(line) = reading.fault() {
         return Ok(JobOutcome {
             verdict: Verdict::Syntax(line),
@@ -83,9 +83,14 @@ fn run<S: Stepper>(alloc: Global, job: &Job, stepper: &mut S) -> Result<JobOutco
             checkpoints: SharedList::new(alloc),
         });
     }
-    match RunState::header_tolerance_of(reading.header()) {
+    match RunState::header_tolerance_or_unsupported(reading.header()) {
         // A question mark would move the state once more.
-        Ok(header_tolerance) => match begin_run(alloc, job, kept, header_tolerance) {
+        Ok(header_tolerance) => match begin_run_at_start_or_checkpoint(
+            alloc,
+            job,
+            kept,
+            header_tolerance,
+        ) {
             Ok(progress) => run_remaining_events(alloc, job, reading, progress, stepper),
             Err(error) => Err(error),
         },
@@ -113,8 +118,8 @@ fn run_remaining_events<S: Stepper>(
     ensures steps { OnOk result (S.counted stepper.new ≡ S.counted stepper.old + steps job.now) }
     ensures few { OnOk result (S.counted stepper.new ≤ S.counted stepper.old + 4096) }
 {
-    law_readings();
-    law_runs_only_use();
+    law_readings_are_scripts();
+    law_runs_use_only_consulted_settings();
     let finished_run = progress.run(reading.events(), &job.settings(), stepper)?;
     Ok(JobOutcome {
         verdict: finished_run.verdict,

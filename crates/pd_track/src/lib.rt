@@ -16,7 +16,7 @@
 //!
 //! A track has the reading and every fourth state of the run of its text under its settings:
 //! `IsTrack` (specs/Reuse.antt). A `Done` has the verdict of its task: `IsDone`. The run begins at
-//! the last place where it may: the law `law_runs_begin_last`.
+//! the last place where it may: the law `law_runs_begin_at_last_usable_state`.
 //!
 //! Why it is so:
 //! - A script is run again after each edit. From its first event, that takes a time that grows with
@@ -47,7 +47,7 @@ mod track_data;
 pub use checkpoint::Checkpoint;
 pub use job::Job;
 pub use job_run::run_job;
-pub use laws::law_runs_begin_last;
+pub use laws::law_runs_begin_at_last_usable_state;
 pub use result::{Done, Unfinished};
 pub use task::Task;
 pub use track::Track;

@@ -7,7 +7,7 @@ ghost use Rattle.pd_track.specs.Reuse.{every_fourth};
 
 use crate::checkpoint::Checkpoint;
 use pd_reparse::{ParsedEvent, SharedList};
-use pd_run::{RunState, StepEnd, Stepper, Verdict, law_runs_are_bounded};
+use pd_run::{RunState, StepEnd, Stepper, Verdict, law_runs_stay_in_step_bounds};
 use pd_settings::Settings;
 use std::alloc::{AllocError, Global};
 
@@ -65,12 +65,13 @@ impl Progress {
         ensures steps { OnOk result (S.counted stepper.new ≡ S.counted stepper.old + stepped_from (events_after self.passed events.now) self.state) }
         ensures few { OnOk result (S.counted stepper.new ≤ S.counted stepper.old + length events.now) }
     {
-        law_runs_are_bounded();
+        law_runs_stay_in_step_bounds();
         self.checkpoints.reserve((events.len() - self.passed) / 4)?;
         for i in self.passed..events.len() {
             match stepper.step(&mut self.state, &events.at(i).event, settings)? {
-                StepEnd::Go if i + 1 < events.len() => self.note_passed_event()?,
-                StepEnd::Go => return self.finish_after_last_event(),
+                StepEnd::Go if i + 1 < events.len() =>
+                    self.count_event_and_keep_each_fourth_state()?,
+                StepEnd::Go => return self.finish_as_passed_keeping_fourth_state(),
                 StepEnd::Stop(verdict) => return Ok(self.into_finished_run(verdict)),
             }
         }
@@ -90,7 +91,7 @@ impl Progress {
     }
 
     /// The last event has passed, and the run has ended: its state is kept if it is a fourth one.
-    fn finish_after_last_event(self) -> Result<FinishedRun, AllocError>
+    fn finish_as_passed_keeping_fourth_state(self) -> Result<FinishedRun, AllocError>
         requires { self.passed < 4096 }
         ensures verdict { IfOk result (λ finished_run. finished_run.verdict ≡ Verdict.Pass (self.passed + 1)) }
         ensures checkpoints { IfOk result (λ finished_run. finished_run.checkpoints ≡ self.checkpoints ++ (if (self.passed + 1) % 4 == 0 then self.state ∷ [] else [])) }
@@ -101,7 +102,7 @@ impl Progress {
             mut checkpoints,
         } = self;
         if (passed + 1) % 4 == 0 {
-            checkpoints.push(Checkpoint::of(state))?;
+            checkpoints.push(Checkpoint::from_owned_run_state(state))?;
         }
         Ok(FinishedRun {
             verdict: Verdict::Pass(passed + 1),
@@ -110,7 +111,7 @@ impl Progress {
     }
 
     /// One more event has passed: each fourth state is kept.
-    fn note_passed_event(&mut self) -> Result<(), AllocError>
+    fn count_event_and_keep_each_fourth_state(&mut self) -> Result<(), AllocError>
         requires { self.old.passed < 4096 }
         ensures state { self.new.state ≡ self.old.state }
         ensures passed { OnOk result (self.new.passed ≡ self.old.passed + 1) }
@@ -118,7 +119,7 @@ impl Progress {
     {
         self.passed += 1;
         if self.passed % 4 == 0 {
-            Checkpoint::push_copy(&mut self.checkpoints, &self.state)?;
+            Checkpoint::push_copy_of_run_state(&mut self.checkpoints, &self.state)?;
         }
         Ok(())
     }

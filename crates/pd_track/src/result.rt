@@ -5,7 +5,7 @@ ghost use Rattle.pd_run.specs.Run.{verdict_of};
 
 use crate::task::Task;
 use crate::track::Track;
-use pd_run::{Verdict, law_verdicts_are_grammatical};
+use pd_run::{Verdict, law_verdicts_are_of_grammar_scripts};
 use pd_settings::Settings;
 use pd_text::{Name, Text};
 use std::marker::Model;
@@ -81,7 +81,7 @@ impl Done {
         ensures verdict { result ≡ verdict_of self.now.text self.now.settings }
         ensures grammar { IsVerdictOf self.now.text self.now.settings result }
     {
-        law_verdicts_are_grammatical();
+        law_verdicts_are_of_grammar_scripts();
         self.verdict
     }
 

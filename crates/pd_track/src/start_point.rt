@@ -12,8 +12,8 @@ use crate::checkpoint::Checkpoint;
 use crate::job::Job;
 use crate::progress::Progress;
 use crate::track::Track;
-use pd_reparse::{Reread, SharedList, law_first_events, read, reread};
-use pd_run::{RunState, law_runs_are_bounded, law_runs_only_use};
+use pd_reparse::{Reread, SharedList, law_equal_first_lines_keep_first_events, read, reread};
+use pd_run::{RunState, law_runs_stay_in_step_bounds, law_runs_use_only_consulted_settings};
 use pd_settings::{SettingSet, Settings};
 use pd_text::Text;
 use std::alloc::{AllocError, Global};
@@ -22,12 +22,12 @@ use std::alloc::{AllocError, Global};
 ///
 /// # Errors
 /// `AllocError` where a growth is refused.
-pub fn read_job(alloc: Global, job: &Job) -> Result<Reread, AllocError>
+pub fn read_job_text_reusing_track(alloc: Global, job: &Job) -> Result<Reread, AllocError>
     ensures reading { IfOk result (λ r. r.reading ≡ reading_of job.now.task.text) }
     ensures kept { IfOk result (λ r. r.kept ≡ kept_before job.now) }
 {
     match job.track() {
-        Some(track) => reread_after_track(alloc, track, job.text(), job.same()),
+        Some(track) => reread_text_reusing_track(alloc, track, job.text(), job.same()),
         None => Ok(Reread {
             reading: read(alloc, job.text().lines())?,
             kept: 0,
@@ -36,7 +36,7 @@ pub fn read_job(alloc: Global, job: &Job) -> Result<Reread, AllocError>
 }
 
 /// Reads a text that begins with the same lines as the track's.
-fn reread_after_track(
+fn reread_text_reusing_track(
     alloc: Global,
     track: &Track,
     text: &Text,
@@ -54,7 +54,7 @@ fn reread_after_track(
 ///
 /// # Errors
 /// `AllocError` where memory for the states that are taken up is refused; never where none of them serves.
-pub fn begin_run(
+pub fn begin_run_at_start_or_checkpoint(
     alloc: Global,
     job: &Job,
     kept: usize,
@@ -66,7 +66,7 @@ pub fn begin_run(
     ensures resumes { IfOk result (λ p. Resumes job.now.task.text job.now.task.settings p.passed p.state p.checkpoints) }
 {
     match job.track() {
-        Some(track) => begin_at_checkpoint(
+        Some(track) => begin_at_usable_checkpoint_or_start(
             alloc,
             track,
             kept,
@@ -89,7 +89,7 @@ fn begin_at_first_event(
     ensures passed { IfOk result (λ p. p.passed ≡ 0) }
     ensures resumes { IfOk result (λ p. Resumes _text.now settings.now p.passed p.state p.checkpoints) }
 {
-    law_runs_are_bounded();
+    law_runs_stay_in_step_bounds();
     Ok(Progress::new(
         alloc,
         RunState::fresh_run(alloc, header_tolerance, settings),
@@ -97,7 +97,7 @@ fn begin_at_first_event(
 }
 
 /// Begins in the last state of the track that serves.
-fn begin_at_checkpoint(
+fn begin_at_usable_checkpoint_or_start(
     alloc: Global,
     track: &Track,
     events: usize,
@@ -114,14 +114,14 @@ fn begin_at_checkpoint(
     if count == 0 {
         return begin_at_first_event(alloc, text, settings, header_tolerance);
     }
-    law_first_events();
-    law_runs_are_bounded();
+    law_equal_first_lines_keep_first_events();
+    law_runs_stay_in_step_bounds();
     track.text().law_invariant();
     text.law_invariant();
-    law_runs_only_use();
+    law_runs_use_only_consulted_settings();
     let checkpoints = first_checkpoints(track, count)?;
     // A question mark would move the state once more.
-    match state_at(track, count).copy() {
+    match run_state_at_checkpoint(track, count).copy() {
         Ok(mut state) => {
             // The state may hold the settings of the run that kept it.
             state.set_settings(settings);
@@ -142,25 +142,29 @@ fn usable_checkpoint_count(track: &Track, kept: usize, settings: &Settings) -> u
     ensures agreeing { 0 < result → agrees (consulted_settings track.now (4 * result)) track.now.settings settings.now ≡ true }
     ensures greatest { 4 * result ≡ greatest (is_usable track.now settings.now) kept }
 {
-    last_agreeing_checkpoint(track, (kept / 4).min(checkpoint_count(track)), settings)
+    count_up_to_last_agreeing_checkpoint(
+        track,
+        (kept / 4).min(track_checkpoint_count(track)),
+        settings,
+    )
 }
 
 /// How many states the track has.
-fn checkpoint_count(track: &Track) -> usize
+fn track_checkpoint_count(track: &Track) -> usize
     ensures { result ≡ length (every_fourth 3 (states_of track.now.text track.now.settings)) }
 {
     track.checkpoints().len()
 }
 
 /// The last of the first states up to which nothing was consulted that differs.
-fn last_agreeing_checkpoint(track: &Track, most: usize, settings: &Settings) -> usize
+fn count_up_to_last_agreeing_checkpoint(track: &Track, most: usize, settings: &Settings) -> usize
     requires { most ≤ length (every_fourth 3 (states_of track.now.text track.now.settings)) }
     ensures within { result ≤ most }
     ensures agreeing { 0 < result → agrees (consulted_settings track.now (4 * result)) track.now.settings settings.now ≡ true }
     ensures none { (j : ℕ) → result < j → j ≤ most → agrees (consulted_settings track.now (4 * j)) track.now.settings settings.now ≡ false }
 {
     for i in 0..most {
-        if has_agreeing_settings_at(track, most - i, settings) {
+        if has_agreeing_settings_at_checkpoint(track, most - i, settings) {
             return most - i;
         }
     }
@@ -168,27 +172,27 @@ fn last_agreeing_checkpoint(track: &Track, most: usize, settings: &Settings) -> 
 }
 
 /// Whether the settings agree with the track's on all that was consulted up to one of its states.
-fn has_agreeing_settings_at(track: &Track, count: usize, settings: &Settings) -> bool
+fn has_agreeing_settings_at_checkpoint(track: &Track, count: usize, settings: &Settings) -> bool
     requires some { 0 < count }
     requires within { count ≤ length (every_fourth 3 (states_of track.now.text track.now.settings)) }
     ensures { result ≡ agrees (consulted_settings track.now (4 * count)) track.now.settings settings.now }
 {
     track
         .settings()
-        .agrees(settings, &consulted_settings_at(track, count))
+        .agrees(settings, &consulted_settings_at_checkpoint(track, count))
 }
 
 /// The settings that were consulted up to one of the track's states.
-fn consulted_settings_at(track: &Track, count: usize) -> SettingSet
+fn consulted_settings_at_checkpoint(track: &Track, count: usize) -> SettingSet
     requires some { 0 < count }
     requires within { count ≤ length (every_fourth 3 (states_of track.now.text track.now.settings)) }
     ensures { result ≡ consulted_settings track.now (4 * count) }
 {
-    state_at(track, count).consulted_settings()
+    run_state_at_checkpoint(track, count).consulted_settings()
 }
 
 /// One of the track's states, but for the settings held in it.
-fn state_at(track: &Track, count: usize) -> &RunState
+fn run_state_at_checkpoint(track: &Track, count: usize) -> &RunState
     requires some { 0 < count }
     requires within { count ≤ length (every_fourth 3 (states_of track.now.text track.now.settings)) }
     ensures { slice_get (every_fourth 3 (states_of track.now.text track.now.settings)) (count - 1) ≡ Some (run_with_settings track.now.settings result.now) }

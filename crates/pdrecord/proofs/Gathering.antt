@@ -5,7 +5,7 @@ use Rattle.std.specs.Io.KnownBytes.{prepend_known}
 use Rattle.std.proofs.lemmas.List.Sums.{sum_by-append}
 use Rattle.std.proofs.lemmas.Bool.Decides.{nat_tests}
 use Rattle.pd_text.specs.Text.{fits_text}
-use Rattle.pd_layout.specs.Traces.{is_trace}
+use Rattle.pd_layout.specs.Traces.{is_single_trace_line}
 use Rattle.pd_protocol.specs.Commands.{fitted}
 use Rattle.pd_protocol.specs.Input.{IfKnown, to_come}
 use Rattle.pd_protocol.specs.LinePieces.{CutsPiece}
@@ -83,7 +83,7 @@ pub gathers_at_hand : (g h : Option (List (List ℕ))) (line old new : List ℕ)
 gathers_at_hand g h line old new left e cut = known_map (λ x y. lines x ≡ strip_carriage_return line ∷ lines y) (Gathers true g h) (prepend_known old left) (prepend_known new left) (λ x y t. (strip_carriage_return line, t, e)) (known_at_hand line old new left cut)
 
 not_dropped : (line : List ℕ) → 65536 < length line → is_trace_line line ≡ false
-not_dropped line h = let e : nat_le (length line) 65536 ≡ false = grind (arith, nat_tests, h) in ap (λ (b : Bool). b && is_trace line) e
+not_dropped line h = let e : nat_le (length line) 65536 ≡ false = grind (arith, nat_tests, h) in ap (λ (b : Bool). b && is_single_trace_line line) e
 
 no_long : (g : Option (List (List ℕ))) (line : List ℕ) → 65536 < length line → option_and_then (λ texts. fitted (texts ++ line ∷ [])) g ≡ None
 no_long None line h = refl

@@ -34,16 +34,16 @@ abbrev pub refusal_line : List ℕ → List ℕ
 refusal_line why = codes "pdrecord: " ++ why ++ codes "\n"
 
 -- a verdict at another line
-abbrev pub verdict_at_line : ℕ → Verdict → Verdict
-verdict_at_line line (Pass events) = Pass events
-verdict_at_line line (Fail old kind) = Fail line kind
-verdict_at_line line (Syntax old) = Syntax line
-verdict_at_line line (Unsupported old) = Unsupported line
-verdict_at_line line (Limit old) = Limit line
+abbrev pub verdict_with_line_replaced : ℕ → Verdict → Verdict
+verdict_with_line_replaced line (Pass events) = Pass events
+verdict_with_line_replaced line (Fail old kind) = Fail line kind
+verdict_with_line_replaced line (Syntax old) = Syntax line
+verdict_with_line_replaced line (Unsupported old) = Unsupported line
+verdict_with_line_replaced line (Limit old) = Limit line
 
 -- these octets report a refusal, a verdict with some line
 abbrev pub IsReasonText : RecordError → List ℕ → Type 0
-IsReasonText (unrecorded.Stopped verdict) why = (line : ℕ) × (why ≡ verdict_text (verdict_at_line line verdict))
+IsReasonText (unrecorded.Stopped verdict) why = (line : ℕ) × (why ≡ verdict_text (verdict_with_line_replaced line verdict))
 IsReasonText unrecorded.TooLarge why = why ≡ codes "2 TooLarge"
 IsReasonText unrecorded.TooManyEvents why = why ≡ codes "21 TooManyEvents"
 IsReasonText unrecorded.TooLongGap why = why ≡ codes "22 TooLongGap"

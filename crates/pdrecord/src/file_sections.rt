@@ -6,10 +6,10 @@ ghost use Rattle.pdrecord.specs.FileSections.{IsSection, Writes, WritesOne, line
 
 use crate::file_source::FileSource;
 use crate::outcome::Outcome;
-use crate::program::outcome_of;
+use crate::program::outcome_of_recording_by_mode;
 use crate::record_options::RecordMode;
 use crate::script_input::ScriptInput;
-use pd_protocol::{InputStream, ServeFault, put_word_and_number, write_all};
+use pd_protocol::{InputStream, ServeFault, put_prefix_and_number, write_all_without_flush};
 use pd_settings::Settings;
 use std::alloc::{AllocError, Global};
 use std::io::Write;
@@ -68,8 +68,8 @@ fn record_and_write_file<R: InputStream + Drop, F: FileSource<R>, W: Write>(
 ) -> Result<bool, ServeFault>
     ensures { WritesOne settings.now mode (F.octets_in files.now) name.now result (W.contents out.old) (W.contents out.new) }
 {
-    let section = record_section(alloc, settings, mode, name, files)?;
-    write_all(out, section.octets.as_slice())?;
+    let section = record_file_to_section(alloc, settings, mode, name, files)?;
+    write_all_without_flush(out, section.octets.as_slice())?;
     Ok(section.is_recorded)
 }
 
@@ -77,7 +77,7 @@ fn record_and_write_file<R: InputStream + Drop, F: FileSource<R>, W: Write>(
 ///
 /// # Errors
 /// `Read` where it can't be opened or read, `Differs` and `OutOfMemory`.
-fn record_section<R: InputStream + Drop, F: FileSource<R>>(
+fn record_file_to_section<R: InputStream + Drop, F: FileSource<R>>(
     alloc: Global,
     settings: &Settings,
     mode: RecordMode,
@@ -89,7 +89,7 @@ fn record_section<R: InputStream + Drop, F: FileSource<R>>(
 {
     let mut file = files.open(name)?;
     let input = ScriptInput::read(alloc, &mut file)?;
-    match outcome_of(alloc, &input, settings, mode)? {
+    match outcome_of_recording_by_mode(alloc, &input, settings, mode)? {
         Outcome::Recorded(octets) => Ok(Section {
             octets: octets_with_title(alloc, b"recorded ", octets.as_slice(), name)?,
             is_recorded: true,
@@ -111,7 +111,7 @@ fn octets_with_title(
     ensures { IfOk result (λ section. section.items ≡ title word.now octets.now name.now ++ octets.now) }
 {
     let mut section = Vec::new(alloc);
-    put_word_and_number(&mut section, word, line_count(octets))?;
+    put_prefix_and_number(&mut section, word, line_count(octets))?;
     section.extend_from_slice(b" ")?;
     section.extend_from_slice(name.as_bytes())?;
     section.extend_from_slice(b"\n")?;

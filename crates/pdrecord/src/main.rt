@@ -1,6 +1,6 @@
 //! The program that records scripts: hands its arguments and streams to `program`.
 //!
-//! `run_with_files` is the whole program but for its streams. It reads its arguments
+//! `run_arguments_with_file_access` is the whole program but for its streams. It reads its arguments
 //! (`RecordOptions`), and records the input or, one after the other, the scripts of files. A
 //! `ScriptInput` is what was read, without the lines of a trace. `RecordMode` chooses how it is
 //! recorded: whole or with a trace (`pd_record`), or by the least change (`pd_mend`). An `Outcome`
@@ -39,15 +39,15 @@ mod stop_cause;
 mod trace_text;
 
 use host_files::HostFiles;
-use pd_protocol::{arguments, exit_with_unreadable_arguments};
-use program::{PROGRAM, run_with_files};
+use pd_protocol::{arguments, write_arguments_unreadable_and_return_exit};
+use program::{PROGRAM, run_arguments_with_file_access};
 use std::process::ExitCode;
 
 fn main(rt: HostRuntime) -> ExitCode {
     let exit = match arguments(&rt) {
         Ok(arguments) => {
             let arguments = arguments.as_slice();
-            run_with_files(
+            run_arguments_with_file_access(
                 rt.alloc(),
                 arguments,
                 &mut rt.stdin(),
@@ -56,7 +56,7 @@ fn main(rt: HostRuntime) -> ExitCode {
                 &mut rt.stderr(),
             )
         }
-        Err(error) => exit_with_unreadable_arguments(PROGRAM, &error, &mut rt.stderr()),
+        Err(error) => write_arguments_unreadable_and_return_exit(PROGRAM, &error, &mut rt.stderr()),
     };
     ExitCode::from(exit.status)
 }

@@ -4,10 +4,12 @@ ghost use Rattle.pd_run.specs.Run.{verdict_of};
 ghost use Rattle.pd_explain.specs.BlockLines.{AreIndented};
 ghost use Rattle.pdrecord.specs.RecordProgram.{IsMendedText, IsRefused, IsUnmade, IsReasonText};
 
-use crate::outcome::{Outcome, refusal_line, refusal_of, verdict_at_line};
+use crate::outcome::{
+    Outcome, refusal_line, refused_outcome_with_explanation, verdict_with_line_replaced,
+};
 use crate::script_input::ScriptInput;
 use crate::trace_text::recording_octets;
-use pd_explain::{cause_text, explain};
+use pd_explain::{cause_text, explain_by_rerun_unless_pass};
 use pd_mend::{MendError, Mended, Unmendable, mend_script};
 use pd_protocol::{ServeFault, put_verdict};
 use pd_record::{RecordError, Recording};
@@ -33,16 +35,21 @@ pub fn outcome_of_mending(
 {
     match mend_script(alloc, lines, settings, drop) {
         Ok(mended) => {
-            let recording = recording_of_mended(alloc, mended);
+            let recording = untraced_recording_of_mended(alloc, mended);
             Ok(Outcome::Recorded(recording_octets(alloc, &recording, false)?))
         }
         Err(MendError::Stopped(unmendable)) => {
             let line = input.input_line_of(unmendable.line);
-            let outcome = refusal_of_unmendable(alloc, &unmendable, line, settings)?;
+            let outcome = refused_outcome_of_unmendable(alloc, &unmendable, line, settings)?;
             Ok(outcome)
         }
         Err(MendError::TooLarge) => {
-            let outcome = refusal_of(alloc, RecordError::TooLarge, input, settings)?;
+            let outcome = refused_outcome_with_explanation(
+                alloc,
+                RecordError::TooLarge,
+                input,
+                settings,
+            )?;
             Ok(outcome)
         }
         Err(MendError::OutOfMemory) => Err(ServeFault::OutOfMemory),
@@ -50,7 +57,7 @@ pub fn outcome_of_mending(
 }
 
 /// A mended text, without a trace.
-fn recording_of_mended(alloc: Global, mended: Mended) -> Recording
+fn untraced_recording_of_mended(alloc: Global, mended: Mended) -> Recording
     ensures { result.lines ≡ mended.lines }
 {
     Recording {
@@ -62,7 +69,7 @@ fn recording_of_mended(alloc: Global, mended: Mended) -> Recording
 
 /// The outcome of a text at which no mend helps: its verdict at a line, and the lines that explain it.
 #[tactic(auto, using(crate::proofs::Below::is_stopped))]
-fn refusal_of_unmendable(
+fn refused_outcome_of_unmendable(
     alloc: Global,
     unmendable: &Unmendable,
     line: usize,
@@ -74,7 +81,7 @@ fn refusal_of_unmendable(
 {
     let reason = verdict_text_at_line(alloc, unmendable.verdict, line)?;
     let mut message = refusal_line(alloc, reason.as_slice())?;
-    let below = explanation_lines(alloc, unmendable, settings)?;
+    let below = cause_lines_of_unmendable(alloc, unmendable, settings)?;
     message.extend_from_slice(below.as_slice())?;
     Ok(Outcome::Refused(message))
 }
@@ -85,13 +92,13 @@ fn verdict_text_at_line(alloc: Global, verdict: Verdict, line: usize) -> Result<
     ensures only { IfErr result IsUnmade }
 {
     let mut row = Vec::new(alloc);
-    put_verdict(&mut row, verdict_at_line(verdict, line))?;
+    put_verdict(&mut row, verdict_with_line_replaced(verdict, line))?;
     Ok(row)
 }
 
 /// The lines that explain the verdict of a text at which no mend helps, without origins, whose lines would be the mended text's.
 #[tactic(auto, using(crate::proofs::Below::no_lines))]
-fn explanation_lines(
+fn cause_lines_of_unmendable(
     alloc: Global,
     unmendable: &Unmendable,
     settings: &Settings,
@@ -99,7 +106,7 @@ fn explanation_lines(
     requires { unmendable.now.verdict ≡ verdict_of unmendable.now.lines settings.now }
     ensures { IfOk result (λ below. AreIndented below.items) }
 {
-    match explain(alloc, &unmendable.lines, settings, unmendable.verdict)? {
+    match explain_by_rerun_unless_pass(alloc, &unmendable.lines, settings, unmendable.verdict)? {
         Some(explanation) => cause_text(
             alloc,
             &explanation.cause.without_origins_and_dropped(alloc),

@@ -2,7 +2,7 @@
 ghost use Rattle.std.specs.Prelude.{◌≡◌, ℕ, List, IfOk, IfErr, codes};
 ghost use Rattle.pd_explain.specs.BlockLines.{AreIndented};
 ghost use Rattle.pd_protocol.specs.Verdicts.{verdict_text};
-ghost use Rattle.pdrecord.specs.RecordProgram.{Explains, IsReasonText, IsRefused, IsUnmade, verdict_at_line, refusal_line};
+ghost use Rattle.pdrecord.specs.RecordProgram.{Explains, IsReasonText, IsRefused, IsUnmade, verdict_with_line_replaced, refusal_line};
 
 use crate::script_input::ScriptInput;
 use crate::stop_cause::cause_of_verdict;
@@ -28,7 +28,7 @@ pub enum Outcome {
 /// # Errors
 /// `Differs` where its recording differs from the recorded events; `OutOfMemory`.
 #[tactic(auto, using(crate::proofs::Below::is_refused))]
-pub fn refusal_of(
+pub fn refused_outcome_with_explanation(
     alloc: Global,
     refusal: RecordError,
     input: &ScriptInput,
@@ -37,16 +37,16 @@ pub fn refusal_of(
     ensures refused { IfOk result (λ outcome. IsRefused refusal outcome) }
     ensures only { IfErr result IsUnmade }
 {
-    let reason = reason_text(alloc, refusal, input)?;
+    let reason = refusal_reason_text(alloc, refusal, input)?;
     let mut message = refusal_line(alloc, reason.as_slice())?;
-    let below = explanation_lines(alloc, refusal, input, settings)?;
+    let below = cause_lines_of_refusal(alloc, refusal, input, settings)?;
     message.extend_from_slice(below.as_slice())?;
     Ok(Outcome::Refused(message))
 }
 
 /// The lines below the one that reports why a script isn't recorded: those of a block where the script is why, else none.
 #[tactic(auto, using(crate::proofs::Below::explains_none))]
-fn explanation_lines(
+fn cause_lines_of_refusal(
     alloc: Global,
     refusal: RecordError,
     input: &ScriptInput,
@@ -79,7 +79,7 @@ fn stop_cause_lines(
 }
 
 /// Why a script isn't recorded, as the program reports it.
-fn reason_text(
+fn refusal_reason_text(
     alloc: Global,
     refusal: RecordError,
     input: &ScriptInput,
@@ -90,8 +90,8 @@ fn reason_text(
     match refusal {
         RecordError::Stopped(verdict) => {
             let mut row = Vec::new(alloc);
-            let line = input.input_line_of(line_of_verdict(verdict));
-            put_verdict(&mut row, verdict_at_line(verdict, line))?;
+            let line = input.input_line_of(line_of_verdict_or_zero(verdict));
+            put_verdict(&mut row, verdict_with_line_replaced(verdict, line))?;
             Ok(row)
         }
         RecordError::TooLarge => Ok(Vec::from_slice(alloc, b"2 TooLarge")?),
@@ -103,7 +103,7 @@ fn reason_text(
 }
 
 /// The line that a verdict names; 0 where it names none.
-fn line_of_verdict(verdict: Verdict) -> usize {
+fn line_of_verdict_or_zero(verdict: Verdict) -> usize {
     match verdict {
         Verdict::Pass(_) => 0,
         Verdict::Fail(line, _)
@@ -114,8 +114,8 @@ fn line_of_verdict(verdict: Verdict) -> usize {
 }
 
 /// A verdict at another line.
-pub fn verdict_at_line(verdict: Verdict, line: usize) -> Verdict
-    ensures { result ≡ verdict_at_line line verdict }
+pub fn verdict_with_line_replaced(verdict: Verdict, line: usize) -> Verdict
+    ensures { result ≡ verdict_with_line_replaced line verdict }
 {
     match verdict {
         Verdict::Pass(events) => Verdict::Pass(events),

@@ -12,15 +12,16 @@ ghost use Rattle.pd_protocol.specs.ChosenOptions.{names_of};
 use crate::file_sections::{FileFault, record_and_write_files};
 use crate::file_source::{FileSource, NoFiles};
 use crate::mend_outcome::outcome_of_mending;
-use crate::outcome::{Outcome, refusal_of};
-use crate::record_options::{RecordMode, RecordOptions, record_options};
+use crate::outcome::{Outcome, refused_outcome_with_explanation};
+use crate::record_options::{RecordMode, RecordOptions, parse_record_options};
 use crate::script_input::ScriptInput;
 use crate::trace_text::recording_octets;
 use pd_protocol::{
-    Exit, FAULT_STATUS, InputStream, ProgramFault, ServeFault, exit_with_clap_error,
-    exit_with_fault, settings_from_toml, try_write, write_all,
+    Exit, FAULT_STATUS, InputStream, ProgramFault, ServeFault, settings_from_toml, try_write,
+    write_all_without_flush, write_clap_error_and_return_fault_exit,
+    write_fault_and_return_fault_exit,
 };
-use pd_record::{RecordError, record};
+use pd_record::{RecordError, record_script_text};
 use pd_settings::Settings;
 use pd_text::Lines;
 use std::alloc::Global;
@@ -35,7 +36,7 @@ const NOT_RECORDED: u8 = 1;
 
 /// Runs the program that records on its arguments, of which the first is its own name, where no files are. Where `clap` refuses
 /// them, and for `--help`, it prints its own text on `err`, with the status 2.
-pub fn run_without_files<S: AsStr, R: InputStream, W: Write, E: Write>(
+pub fn run_arguments_without_file_access<S: AsStr, R: InputStream, W: Write, E: Write>(
     alloc: Global,
     arguments: &[S],
     reader: &mut R,
@@ -47,11 +48,11 @@ pub fn run_without_files<S: AsStr, R: InputStream, W: Write, E: Write>(
         refusals arguments ≡ [] → files_named arguments ≡ [] → FinishesRecording (R.has_failed reader.new) result (settings_text pdrecord arguments) (mode_chosen arguments) input (W.contents out.old) (W.contents out.new) (E.contents err.old) (E.contents err.new) }
     ensures refused { refusals (map S.text arguments.now) ≢ [] → ExitsRefused result (W.contents out.old) (W.contents out.new) }
 {
-    run_with_files(alloc, arguments, reader, &NoFiles, out, err)
+    run_arguments_with_file_access(alloc, arguments, reader, &NoFiles, out, err)
 }
 
 /// The same where files are.
-pub fn run_with_files<
+pub fn run_arguments_with_file_access<
     S: AsStr,
     R: InputStream,
     Q: InputStream + Drop,
@@ -66,14 +67,20 @@ pub fn run_with_files<
         refusals arguments ≡ [] → files_named arguments ≢ [] → FinishesFiles (settings_in (settings_text pdrecord arguments)) (mode_chosen arguments) (F.octets_in files.now) (files_named arguments) result (W.contents out.old) (W.contents out.new) (E.contents err.old) (E.contents err.new) }
     ensures refused { refusals (map S.text arguments.now) ≢ [] → ExitsRefused result (W.contents out.old) (W.contents out.new) }
 {
-    match record_options(alloc, arguments) {
-        Ok(options) => run_with_options(alloc, &options, reader, files, out, err),
-        Err(error) => exit_with_clap_error(alloc, PROGRAM, &error, err),
+    match parse_record_options(alloc, arguments) {
+        Ok(options) => record_named_files_or_input(alloc, &options, reader, files, out, err),
+        Err(error) => write_clap_error_and_return_fault_exit(alloc, PROGRAM, &error, err),
     }
 }
 
 /// Records what the options choose: the scripts of files, or else the input.
-fn run_with_options<R: InputStream, Q: InputStream + Drop, F: FileSource<Q>, W: Write, E: Write>(
+fn record_named_files_or_input<
+    R: InputStream,
+    Q: InputStream + Drop,
+    F: FileSource<Q>,
+    W: Write,
+    E: Write,
+>(
     alloc: Global,
     options: &RecordOptions<'_>,
     reader: &mut R,
@@ -123,7 +130,7 @@ fn run_on_files<R: InputStream + Drop, F: FileSource<R>, W: Write, E: Write>(
             let end = record_and_write_files(alloc, &settings, options.mode, names, files, out);
             exit_after_files(end, err)
         }
-        Err(fault) => exit_with_fault(PROGRAM, err, fault),
+        Err(fault) => write_fault_and_return_fault_exit(PROGRAM, err, fault),
     }
 }
 
@@ -151,7 +158,7 @@ fn exit_with_file_fault<E: Write>(stop: FileFault<'_>, err: &mut E) -> Exit
             stderr_ok: false,
         };
     }
-    exit_with_fault(stop.name, err, ProgramFault::Serving(stop.fault))
+    write_fault_and_return_fault_exit(stop.name, err, ProgramFault::Serving(stop.fault))
 }
 
 /// Ends a run: writes a recording, or reports why there is none.
@@ -163,18 +170,22 @@ fn exit_with_outcome<W: Write, E: Write>(
     ensures { Ends end result (W.contents out.old) (W.contents out.new) (E.contents err.old) (E.contents err.new) }
 {
     match end {
-        Ok(Outcome::Recorded(octets)) => match write_all(out, octets.as_slice()) {
+        Ok(Outcome::Recorded(octets)) => match write_all_without_flush(out, octets.as_slice()) {
             Ok(()) => Exit {
                 status: 0,
                 stderr_ok: true,
             },
-            Err(fault) => exit_with_fault(PROGRAM, err, ProgramFault::Serving(fault)),
+            Err(fault) => write_fault_and_return_fault_exit(
+                PROGRAM,
+                err,
+                ProgramFault::Serving(fault),
+            ),
         },
         Ok(Outcome::Refused(line)) => Exit {
             status: NOT_RECORDED,
             stderr_ok: try_write(err, line.as_slice()),
         },
-        Err(fault) => exit_with_fault(PROGRAM, err, fault),
+        Err(fault) => write_fault_and_return_fault_exit(PROGRAM, err, fault),
     }
 }
 
@@ -188,7 +199,7 @@ fn record_input<R: InputStream>(
 {
     let settings = settings_from_toml(alloc, options.settings)?;
     let input = ScriptInput::read(alloc, reader)?;
-    let outcome = outcome_of(alloc, &input, &settings, options.mode)?;
+    let outcome = outcome_of_recording_by_mode(alloc, &input, &settings, options.mode)?;
     Ok(outcome)
 }
 
@@ -196,7 +207,7 @@ fn record_input<R: InputStream>(
 ///
 /// # Errors
 /// `Differs` and `OutOfMemory`.
-pub fn outcome_of(
+pub fn outcome_of_recording_by_mode(
     alloc: Global,
     input: &ScriptInput,
     settings: &Settings,
@@ -206,7 +217,7 @@ pub fn outcome_of(
     ensures only { IfErr result IsUnmade }
 {
     let Some(lines) = &input.lines else {
-        return refusal_of(alloc, RecordError::TooLarge, input, settings);
+        return refused_outcome_with_explanation(alloc, RecordError::TooLarge, input, settings);
     };
     match mode {
         RecordMode::Whole => record_whole(alloc, input, lines, settings, false),
@@ -226,8 +237,8 @@ fn record_whole(
     ensures outcome { IfOk result (IsWhole settings.now with_trace lines.now) }
     ensures only { IfErr result IsUnmade }
 {
-    match record(alloc, lines, settings, with_trace) {
+    match record_script_text(alloc, lines, settings, with_trace) {
         Ok(recording) => Ok(Outcome::Recorded(recording_octets(alloc, &recording, with_trace)?)),
-        Err(refusal) => refusal_of(alloc, refusal, input, settings),
+        Err(refusal) => refused_outcome_with_explanation(alloc, refusal, input, settings),
     }
 }

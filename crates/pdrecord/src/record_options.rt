@@ -6,7 +6,7 @@ ghost use Rattle.pdrecord.specs.RecordArguments.{pdrecord, trace_rule, minimal_r
 
 use clap::error::ErrorKind;
 use clap::{Arg, ArgAction, ArgMatches, Command, Error};
-use pd_protocol::{is_true, refusal_together, settings_option};
+use pd_protocol::{clap_error_for_conflicting_arguments, is_word_true, toml_settings_text_option};
 use std::alloc::{AllocError, Global};
 use std::convert::AsStr;
 
@@ -57,7 +57,7 @@ prints
 ///
 /// # Errors
 /// `clap`'s message on the arguments, the text of `--help` among it.
-pub fn record_options<'a, S: AsStr>(
+pub fn parse_record_options<'a, S: AsStr>(
     alloc: Global,
     arguments: &'a [S],
 ) -> Result<RecordOptions<'a>, Error>
@@ -69,9 +69,9 @@ pub fn record_options<'a, S: AsStr>(
     let matches = command.try_get_matches_from(arguments)?;
     if are_options_conflicting(&matches) {
         let with_conflicts = command_with_conflicts(alloc, is_trace_beside_minimal(&matches));
-        return Err(refusal_together(with_conflicts, arguments));
+        return Err(clap_error_for_conflicting_arguments(with_conflicts, arguments));
     }
-    Ok(options_of(alloc, &matches)?)
+    Ok(options_of_matches(alloc, &matches)?)
 }
 
 /// Whether options are refused together of which each may be written.
@@ -99,11 +99,14 @@ fn is_drop_missing_alone(matches: &ArgMatches<'_>) -> bool
 fn is_flag_given(matches: &ArgMatches<'_>, name: &str) -> bool
     ensures { (arguments : List Text) → HasMatchesOf pdrecord arguments matches.now → result ≡ is_flag_given name.now arguments }
 {
-    is_true(matches.get_str(name).unwrap_or("").as_bytes())
+    is_word_true(matches.get_str(name).unwrap_or("").as_bytes())
 }
 
 /// The options that arguments choose which aren't refused.
-fn options_of<'a>(alloc: Global, matches: &ArgMatches<'a>) -> Result<RecordOptions<'a>, AllocError>
+fn options_of_matches<'a>(
+    alloc: Global,
+    matches: &ArgMatches<'a>,
+) -> Result<RecordOptions<'a>, AllocError>
     ensures { (arguments : List Text) → HasMatchesOf pdrecord arguments matches.now → IfOk result (λ options. HasRecordOptions arguments options) }
 {
     let files = file_names(alloc, matches)?;
@@ -155,7 +158,7 @@ fn command_with_options<'a>(alloc: Global) -> Result<Command<'a>, AllocError>
     Ok(
         Command::new(alloc, "pdrecord")
             .bin_name("pdrecord")?
-            .arg(settings_option(alloc))?
+            .arg(toml_settings_text_option(alloc))?
             .arg(trace_option(alloc))?
             .arg(minimal_option(alloc))?
             .arg(drop_missing_option(alloc))?
@@ -169,7 +172,7 @@ fn command_with_options<'a>(alloc: Global) -> Result<Command<'a>, AllocError>
 /// `--minimal` beside `--drop-missing` and `--trace`.
 fn command_with_conflicts<'a>(alloc: Global, is_trace_apart: bool) -> Result<Command<'a>, Error> {
     let mut options = Vec::new(alloc);
-    push_options(alloc, &mut options, is_trace_apart)?;
+    push_options_with_conflicts(alloc, &mut options, is_trace_apart)?;
     let command = Command::new(alloc, "pdrecord")
         .about(ABOUT)
         .after_help(AFTER);
@@ -177,12 +180,12 @@ fn command_with_conflicts<'a>(alloc: Global, is_trace_apart: bool) -> Result<Com
 }
 
 /// Adds each option, with what it may be beside.
-fn push_options<'a>(
+fn push_options_with_conflicts<'a>(
     alloc: Global,
     options: &mut Vec<Arg<'a>>,
     is_trace_apart: bool,
 ) -> Result<(), AllocError> {
-    options.push(settings_option(alloc))?;
+    options.push(toml_settings_text_option(alloc))?;
     options.push(trace_option_with_conflicts(alloc, is_trace_apart)?)?;
     options.push(minimal_option(alloc))?;
     options.push(drop_missing_option(alloc).requires_arg("minimal")?)?;

@@ -7,10 +7,10 @@ ghost use Rattle.pd_protocol.specs.NextLines.{IsIo};
 ghost use Rattle.pdrecord.specs.ScriptInput.{is_trace_line, script_in};
 ghost use Rattle.pdrecord.specs.Inner.{Gathers, with_line};
 
-use pd_layout::is_trace;
+use pd_layout::is_single_trace_line;
 use pd_protocol::{
-    InputStream, LineReader, NextLine, ServeFault, TextBuilder, text_within_limits,
-    without_carriage_return,
+    InputStream, LineReader, NextLine, ServeFault, TextBuilder,
+    text_of_lines_or_none_if_over_limits, without_carriage_return,
 };
 use pd_text::{Lines, MAX_LINES, MAX_OCTETS};
 use std::alloc::{AllocError, Global};
@@ -37,7 +37,7 @@ impl ScriptInput {
         let mut line_reader = LineReader::new(alloc);
         let mut text_builder = TextBuilder::new(alloc);
         let mut numbers = LineNumbers::new(alloc);
-        while read_and_gather_line(
+        while gather_line_returning_whether_any(
             alloc,
             &mut line_reader,
             reader,
@@ -45,7 +45,7 @@ impl ScriptInput {
             &mut numbers,
         )? {}
         Ok(ScriptInput {
-            lines: text_within_limits(text_builder.into_lines()),
+            lines: text_of_lines_or_none_if_over_limits(text_builder.into_lines_unless_too_large()),
             numbers,
         })
     }
@@ -77,7 +77,7 @@ impl LineNumbers {
     }
 
     /// Counts a line, which is kept or dropped; no text has more than 4,096.
-    fn count_line(&mut self, line: &[u8]) -> Result<(), AllocError> {
+    fn count_line_and_keep_unless_trace(&mut self, line: &[u8]) -> Result<(), AllocError> {
         self.read = self.read.saturating_add(1);
         if self.kept_lines.len() < MAX_LINES && !is_trace_line(line) {
             self.kept_lines.push(self.read)?;
@@ -87,7 +87,7 @@ impl LineNumbers {
 }
 
 /// Takes a line of an input; false where there is none.
-fn read_and_gather_line<R: InputStream>(
+fn gather_line_returning_whether_any<R: InputStream>(
     alloc: Global,
     line_reader: &mut LineReader,
     reader: &mut R,
@@ -102,23 +102,23 @@ fn read_and_gather_line<R: InputStream>(
     ensures only { IfErr result IsIo }
     ensures cause { IfErr result (IsCaused (R.has_failed reader.new) line_reader.old line_reader.new (R.remaining reader.old)) }
 {
-    if let Some(line) = line_reader.buffered_line() {
+    if let Some(line) = line_reader.peek_next_line_if_buffered() {
         let octets = line.len() + 1;
         let line = without_carriage_return(line);
-        numbers.count_line(line)?;
+        numbers.count_line_and_keep_unless_trace(line)?;
         add_unless_trace_line(text_builder, line)?;
         line_reader.consume(octets);
         return Ok(true);
     }
-    match line_reader.next_line(alloc, reader, MAX_OCTETS)? {
+    match line_reader.next_line_or_long_or_end(alloc, reader, MAX_OCTETS)? {
         NextLine::Whole(line) => {
-            numbers.count_line(line.as_slice())?;
+            numbers.count_line_and_keep_unless_trace(line.as_slice())?;
             add_unless_trace_line(text_builder, line.as_slice())?;
             line_reader.recycle(line);
             Ok(true)
         }
         NextLine::Long => {
-            text_builder.add_oversized_line();
+            text_builder.mark_text_too_large();
             Ok(true)
         }
         NextLine::End => Ok(false),
@@ -133,12 +133,12 @@ fn add_unless_trace_line(text_builder: &mut TextBuilder, line: &[u8]) -> Result<
     if is_trace_line(line) {
         return Ok(());
     }
-    text_builder.add_line(line)
+    text_builder.add_line_or_mark_too_large(line)
 }
 
 /// Whether a line is dropped: one of a trace that isn't over the limits of a text by itself.
 pub fn is_trace_line(line: &[u8]) -> bool
     ensures { result ≡ is_trace_line line.now }
 {
-    line.len() <= MAX_OCTETS && is_trace(line)
+    line.len() <= MAX_OCTETS && is_single_trace_line(line)
 }

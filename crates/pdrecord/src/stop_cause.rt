@@ -1,7 +1,9 @@
 //! Why recording a script stops, as the cause that a block reports.
-use pd_explain::{Cause, Failed, cause_of_event_stop, event_place, explain};
+use pd_explain::{
+    Cause, Failed, cause_of_event_stop, explain_by_rerun_unless_pass, place_of_event_after_passed,
+};
 use pd_host::Halt;
-use pd_record::{RecordingStop, find_recording_stop};
+use pd_record::{RecordingStop, find_recorder_state_stopped_on_line};
 use pd_reparse::{ParsedEvent, Reading, read};
 use pd_run::{Precheck, StopPoint, StopReason, Verdict, run_all};
 use pd_script::parse;
@@ -27,7 +29,7 @@ pub fn cause_of_verdict(
     };
     let parsed = parse(alloc, lines)?;
     let events = parsed.events.as_slice();
-    match find_recording_stop(alloc, &parsed.header, events, settings, line)? {
+    match find_recorder_state_stopped_on_line(alloc, &parsed.header, events, settings, line)? {
         Some(stop) => cause_of_stop(alloc, lines, stop, stop_reason),
         None => cause_of_run(alloc, lines, settings),
     }
@@ -40,7 +42,7 @@ fn cause_of_run(
     settings: &Settings,
 ) -> Result<Option<Cause>, AllocError> {
     let verdict = run_all(alloc, lines, settings)?;
-    match explain(alloc, lines, settings, verdict)? {
+    match explain_by_rerun_unless_pass(alloc, lines, settings, verdict)? {
         Some(explanation) => Ok(Some(explanation.cause)),
         None => Ok(None),
     }
@@ -86,7 +88,7 @@ fn cause_of_event(
     stopped: &StopPoint,
     base: u64,
 ) -> Result<Option<Cause>, AllocError> {
-    let place = event_place(reading, stopped.passed);
+    let place = place_of_event_after_passed(reading, stopped.passed);
     let cause = cause_of_event_stop(alloc, lines, place, parsed_event, stopped)?;
     Ok(Some(with_base_if_backwards(cause, base)))
 }
@@ -95,13 +97,13 @@ fn cause_of_event(
 fn with_base_if_backwards(cause: Cause, base: u64) -> Cause {
     let mut cause = cause;
     if let Cause::Failed(failure) = &mut cause {
-        set_backwards_base(&mut failure.failed, base);
+        set_base_if_backwards(&mut failure.failed, base);
     }
     cause
 }
 
 /// Puts this moment in the place of that from which a time that lies too early counts.
-fn set_backwards_base(failed: &mut Failed, base: u64) {
+fn set_base_if_backwards(failed: &mut Failed, base: u64) {
     if let Failed::Backwards(time_backwards) = failed {
         time_backwards.base = base;
     }

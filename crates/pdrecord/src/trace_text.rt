@@ -7,7 +7,7 @@ ghost use Rattle.pdrecord.specs.Inner.{GoesOn};
 
 use crate::script_input::is_trace_line;
 use pd_explain::write_sender;
-use pd_print::write_fixed_seconds;
+use pd_print::render_seconds_with_six_decimals;
 use pd_protocol::ServeFault;
 use pd_record::{Recording, TraceEntry, TraceOrigin};
 use std::alloc::{AllocError, Global};
@@ -28,7 +28,7 @@ pub fn recording_octets(
     let mut out = Vec::new(alloc);
     let mut traced = 0usize;
     for done in 0..recording.lines.len() {
-        put_recording_line(&mut out, recording.lines.line(done + 1).unwrap_or(&[]))?;
+        put_recording_line_refusing_trace(&mut out, recording.lines.line(done + 1).unwrap_or(&[]))?;
         let trace_entry = recording.trace_entries.get(traced);
         if put_trace_at_event_end(alloc, &mut out, trace_entry, done + 1, with_trace)? {
             traced = traced.saturating_add(1);
@@ -38,14 +38,14 @@ pub fn recording_octets(
 }
 
 /// Adds a line of the recording.
-fn put_recording_line(out: &mut Vec<u8>, line: &[u8]) -> Result<(), ServeFault>
+fn put_recording_line_refusing_trace(out: &mut Vec<u8>, line: &[u8]) -> Result<(), ServeFault>
     ensures line { OnOk result ((is_trace_line line.now ≡ false) × (out.new.items ≡ out.old.items ++ (line.now ++ 10 ∷ []))) }
     ensures only { IfErr result IsUnmade }
 {
     if is_trace_line(line) {
         return Err(ServeFault::Differs);
     }
-    add_line(out, line)?;
+    add_line_with_newline(out, line)?;
     Ok(())
 }
 
@@ -84,12 +84,12 @@ fn put_trace_line(
     if !is_trace_line(line.as_slice()) {
         return Err(ServeFault::Differs);
     }
-    add_line(out, line.as_slice())?;
+    add_line_with_newline(out, line.as_slice())?;
     Ok(())
 }
 
 /// Adds a line with its newline.
-fn add_line(out: &mut Vec<u8>, line: &[u8]) -> Result<(), AllocError>
+fn add_line_with_newline(out: &mut Vec<u8>, line: &[u8]) -> Result<(), AllocError>
     ensures { OnOk result (out.new.items ≡ out.old.items ++ (line.now ++ 10 ∷ [])) }
 {
     out.extend_from_slice(line)?;
@@ -104,7 +104,7 @@ fn trace_line(alloc: Global, trace_entry: &TraceEntry) -> Result<Vec<u8>, AllocE
         expiry: trace_entry.sender.expiry,
     };
     let mut line = Vec::from_slice(alloc, b"//= at ")?;
-    line.extend_from_slice(write_fixed_seconds(alloc, trace_entry.at)?.as_slice())?;
+    line.extend_from_slice(render_seconds_with_six_decimals(alloc, trace_entry.at)?.as_slice())?;
     line.extend_from_slice(b" ")?;
     line.extend_from_slice(write_sender(alloc, &sender)?.as_slice())?;
     match trace_entry.origin {

@@ -12,7 +12,7 @@
 //!   `pd_protocol`.
 #![tactic(auto)]
 
-use pd_cli::{PROGRAM, arguments, exit_with_unreadable_arguments, run};
+use pd_cli::{PROGRAM, arguments, run, write_arguments_unreadable_and_return_exit};
 use std::process::ExitCode;
 
 fn main(rt: HostRuntime) -> ExitCode {
@@ -28,7 +28,7 @@ fn main(rt: HostRuntime) -> ExitCode {
                 &mut rt.stderr(),
             )
         }
-        Err(error) => exit_with_unreadable_arguments(PROGRAM, &error, &mut rt.stderr()),
+        Err(error) => write_arguments_unreadable_and_return_exit(PROGRAM, &error, &mut rt.stderr()),
     };
     ExitCode::from(exit.status)
 }

@@ -65,7 +65,7 @@ impl LowerCalls {
 fn keep(written: &mut Vec<Lines>, made: Result<Lines, TextFault>, output: &mut AnswerText) {
     match made {
         Ok(lines) => push(written, lines, output),
-        Err(fault) => output.push_str(fault.text()),
+        Err(fault) => output.push_str(fault.number_and_name()),
     }
 }
 
@@ -153,7 +153,7 @@ fn edited_by_copy(lines: &Lines, edit: &LineEdit) -> Result<Lines, TextFault> {
 fn write_made(output: &mut AnswerText, made: Result<Lines, TextFault>) {
     match made {
         Ok(lines) => write_lines(output, &lines),
-        Err(fault) => output.push_str(fault.text()),
+        Err(fault) => output.push_str(fault.number_and_name()),
     }
 }
 
@@ -165,7 +165,7 @@ fn write_line(output: &mut AnswerText, lines: &Lines, number: u64) {
 fn compare(lines: &Lines, other: Result<Lines, TextFault>) -> &'static str {
     match other {
         Ok(other) => truth(lines.is_same(&other)),
-        Err(fault) => fault.text(),
+        Err(fault) => fault.number_and_name(),
     }
 }
 

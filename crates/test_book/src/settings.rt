@@ -41,7 +41,7 @@ fn change(settings: &mut Settings, arguments: &mut CallArguments<'_>) -> &'stati
             *settings = changed;
             "ok"
         }
-        Err(fault) => fault.text(),
+        Err(fault) => fault.number_and_name(),
     }
 }
 
@@ -64,7 +64,7 @@ fn compare_text(alloc: Global, settings: &Settings, text: &str) -> &'static str 
 fn compare_table(settings: &Settings, table: &Table) -> &'static str {
     match Settings::from_table(table) {
         Ok(read) => same_or_other(&read, settings),
-        Err(fault) => fault.text(),
+        Err(fault) => fault.number_and_name(),
     }
 }
 

@@ -47,7 +47,7 @@ impl<'a> Calls for SharedCalls<'a> {
     fn show(&mut self) -> Result<Report, &'static str> {
         match self.held.show(self.seat) {
             Ok(report) => Ok(report),
-            Err(fault) => Err(fault.text()),
+            Err(fault) => Err(fault.number_and_name()),
         }
     }
 

@@ -171,7 +171,7 @@ fn close_fixture(
     match held.close(seats) {
         Ok(book) => write_book(output, "", book),
         Err(fault) => {
-            output.push_str(fault.text());
+            output.push_str(fault.number_and_name());
             match fault {
                 CloseFault::Differs(book) => write_book(output, ", ", book),
                 CloseFault::MissingSeat(held, seats) => shared_fixtures.push_reserved(

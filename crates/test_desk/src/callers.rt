@@ -59,7 +59,7 @@ impl<'a, 'b, R: Wait> Calls for DeskCaller<'a, 'b, R> {
     fn show(&mut self) -> Result<Report, &'static str> {
         match self.desk.show(self.rt, self.seat) {
             Ok(report) => Ok(report),
-            Err(fault) => Err(fault.text()),
+            Err(fault) => Err(fault.number_and_name()),
         }
     }
 
@@ -91,7 +91,7 @@ impl<'a, 'b, R: Wait> DeskCalls for DeskCaller<'a, 'b, R> {
     fn settle(&mut self) -> Result<Report, &'static str> {
         match self.desk.settle(self.rt, self.seat) {
             Ok(report) => Ok(report),
-            Err(fault) => Err(fault.text()),
+            Err(fault) => Err(fault.number_and_name()),
         }
     }
 
@@ -107,7 +107,7 @@ impl<'a, 'b, R: Wait> DeskCalls for DeskCaller<'a, 'b, R> {
             .work(self.rt, alloc, self.seat, &mut stepper, &job_trace)
         {
             Ok(()) => "left",
-            Err(fault) => fault.text(),
+            Err(fault) => fault.number_and_name(),
         }
     }
 
@@ -187,7 +187,7 @@ pub fn pool<R: Threads + Wait + Sync>(
 ) -> &'static str {
     match desk.pool(rt, alloc, seats, gate) {
         Ok(()) => "ok",
-        Err(fault) => fault.text(),
+        Err(fault) => fault.number_and_name(),
     }
 }
 

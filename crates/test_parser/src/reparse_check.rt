@@ -6,7 +6,7 @@ use crate::comparison::Comparison;
 use crate::editor::Editor;
 use crate::make_text::text;
 use crate::octet_buffer::OctetBuffer;
-use pd_layout::is_same_event;
+use pd_layout::is_same_event_but_for_line;
 use pd_reparse::{ParsedEvent, Reading, Reread, read, reread};
 use pd_script::{Header, HeaderItem, HeaderKind};
 use pd_text::Lines;
@@ -142,7 +142,7 @@ fn is_same_parsed_event(one: &ParsedEvent, other: &ParsedEvent) -> bool {
         && one.after.line == other.after.line
         && one.after.at == other.after.at
         && one.event.line == other.event.line
-        && is_same_event(&one.event, &other.event)
+        && is_same_event_but_for_line(&one.event, &other.event)
 }
 
 fn is_same_header(one: &Header, other: &Header) -> bool {

@@ -1,6 +1,6 @@
 //! Answers and moments whose octets were worked out by hand.
 use crate::output::OutputText;
-use pd_print::{write_answer, write_fixed_seconds, write_time};
+use pd_print::{render_answer, render_seconds_with_six_decimals, render_time};
 use pd_script::Time;
 use pd_seg::{Answer, Errno};
 use std::alloc::Global;
@@ -31,7 +31,7 @@ const MOMENTS: &[u64] = &[
 /// Says each answer.
 pub fn write_answers(alloc: Global, output: &mut OutputText) {
     for answer in ANSWERS {
-        output.written(write_answer(alloc, *answer));
+        output.written(render_answer(alloc, *answer));
         output.push_str("\n");
     }
 }
@@ -39,9 +39,9 @@ pub fn write_answers(alloc: Global, output: &mut OutputText) {
 /// Says each moment with six decimals, and with no more than it takes.
 pub fn write_times(alloc: Global, output: &mut OutputText) {
     for moment in MOMENTS {
-        output.written(write_fixed_seconds(alloc, *moment));
+        output.written(render_seconds_with_six_decimals(alloc, *moment));
         output.push_str(" ");
-        output.written(write_time(alloc, Time::Relative(*moment)));
+        output.written(render_time(alloc, Time::Relative(*moment)));
         output.push_str("\n");
     }
 }

@@ -2,7 +2,7 @@
 use crate::output::OutputText;
 use crate::read_back::is_read_back;
 use crate::rows::{NO_MEMORY, RowReader};
-use pd_print::write_sent_event;
+use pd_print::render_sent_segment_event;
 use pd_script::Time;
 use pd_seg::{Flags, SackSpans, SegOption, SegOptions, Segment, Sent, Span};
 use std::alloc::Global;
@@ -15,7 +15,7 @@ pub fn run_packet(alloc: Global, row: &mut RowReader<'_>, output: &mut OutputTex
         at: 200_000,
     };
     row.check("its copy", is_copied(&sent));
-    match write_sent_event(alloc, time, &sent.segment) {
+    match render_sent_segment_event(alloc, time, &sent.segment) {
         Ok(text) => {
             let text = text.as_slice();
             row.check("what is read back", is_read_back(alloc, text, time, &sent));

@@ -43,7 +43,7 @@ fn settings(ssthresh: u64, limit: u64, algorithm: &str) -> Settings {
     with(
         restarting,
         b"recovery_algorithm",
-        Value::from_word(algorithm.as_bytes()),
+        Value::from_word_or_other(algorithm.as_bytes()),
     )
 }
 
@@ -89,7 +89,7 @@ impl ScoreboardCalls {
         match call {
             "write" => self.write(row),
             "sent" => self.send(row),
-            "skip" => self.board.skip_sacked(),
+            "skip" => self.board.advance_next_past_sacked(),
             "ack" => self.acknowledge(row),
             "mark" => self.mark(row),
             "all" => self.compare(row),
@@ -162,7 +162,7 @@ impl ScoreboardCalls {
         let number = row.octets().clamp(self.board.una(), self.board.top());
         self.sacked = self.board.sacked_octets();
         self.undelivered_octets = self.board.undelivered_octets();
-        self.lost_edge = self.board.lost_edge();
+        self.lost_edge = self.board.after_last_lost_octet_or_zero();
         self.board.take_ack(number);
     }
 
@@ -210,7 +210,7 @@ impl ScoreboardCalls {
                 .saturating_add(self.board.sacked_octets())
                 .saturating_sub(self.sacked),
             recover_fs: self.undelivered_octets,
-            safe_ack: acked > 0 && self.board.lost_edge() <= self.lost_edge,
+            safe_ack: acked > 0 && self.board.after_last_lost_octet_or_zero() <= self.lost_edge,
         }
     }
 
@@ -229,12 +229,13 @@ impl ScoreboardCalls {
     fn note_entry_retransmit(&mut self, row: &mut RowReader<'_>) {
         let segment = self.board.run_at(self.board.una());
         row.expect_segment("the segment of an entry", Some(segment));
-        self.window.note_entry_retransmit(segment);
+        self.window.set_high_and_rescue_rxt_to_segment_end(segment);
     }
 
     /// An ACK in recovery sets the window by PRR.
     fn set_prr_cwnd(&mut self, row: &mut RowReader<'_>) {
-        self.window.set_prr_cwnd(self.board.smss(), row.octets());
+        self.window
+            .set_cwnd_pipe_plus_sndcnt_if_prr(self.board.smss(), row.octets());
         row.expect("the window by PRR", self.window.cwnd());
         let prr = self.window.prr();
         row.expect("prr_delivered", prr.prr_delivered);
@@ -249,7 +250,7 @@ impl ScoreboardCalls {
             Some(sent) => {
                 row.expect_word("the rule of step C", rule(sent));
                 row.expect_segment("a segment of step C", Some(sent.segment()));
-                self.window.note_sent(&sent);
+                self.window.update_high_or_rescue_rxt_and_prr(&sent);
             }
             None => row.expect_word("whether step C sends", "-"),
         }
@@ -283,13 +284,16 @@ impl ScoreboardCalls {
         self.compare_octet(row);
         self.compare_after(row);
         row.expect_segment("the rescue", self.board.rescue());
-        row.expect("the last lost octet", self.board.lost_edge());
+        row.expect(
+            "the last lost octet",
+            self.board.after_last_lost_octet_or_zero(),
+        );
     }
 
     /// Compares how many octets are free and SACKed in turns, from `una` on, up to the last SACKed one and a dot.
     fn compare_runs(&self, row: &mut RowReader<'_>) {
         let mut place = self.board.una();
-        for run in self.board.runs() {
+        for run in self.board.sacked_spans() {
             row.expect("where a run begins", run.start.wrapping_sub(place));
             row.expect("where a run ends", run.end.wrapping_sub(run.start));
             place = run.end;
@@ -312,6 +316,9 @@ impl ScoreboardCalls {
         let high_rxt = row.octets();
         row.expect("the pipe", self.board.pipe(high_rxt));
         row.expect_some("the next lost octet", self.board.next_lost(high_rxt));
-        row.expect_some("the next hole", self.board.next_hole(high_rxt));
+        row.expect_some(
+            "the next hole",
+            self.board.find_unsacked_octet_by_nextseg_rule_3(high_rxt),
+        );
     }
 }

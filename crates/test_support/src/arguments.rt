@@ -51,7 +51,7 @@ impl<'a> CallArguments<'a> {
             "false" => Value::Boolean(false),
             word => match word.parse::<u64>() {
                 Ok(number) => Value::Number(number),
-                Err(_) => Value::from_word(word.as_bytes()),
+                Err(_) => Value::from_word_or_other(word.as_bytes()),
             },
         }
     }

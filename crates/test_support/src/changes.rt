@@ -46,7 +46,7 @@ fn change_script<C: Calls>(
 fn add<C: Calls>(book: &mut C, texts: &Texts, name: Name, written: &str) -> &'static str {
     match texts.text(written) {
         Ok(text) => book.add(name, text),
-        Err(fault) => fault.text(),
+        Err(fault) => fault.number_and_name(),
     }
 }
 

@@ -153,7 +153,7 @@ fn give<C: Calls>(
 ) {
     match foreign(started_jobs, texts, arguments) {
         Ok(job) => output.push_str(finish_foreign(book, texts.alloc, job)),
-        Err(fault) => output.push_str(fault.text()),
+        Err(fault) => output.push_str(fault.number_and_name()),
     }
 }
 

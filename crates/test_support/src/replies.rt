@@ -6,7 +6,7 @@ use pd_book::{BookFault, FinishFault, Job, Ruling};
 pub fn changed(reply: Result<(), BookFault>) -> &'static str {
     match reply {
         Ok(()) => "ok",
-        Err(fault) => fault.text(),
+        Err(fault) => fault.number_and_name(),
     }
 }
 
@@ -18,7 +18,7 @@ pub fn started(
     match reply {
         Ok(Some(job)) => Ok(StartedJob::new(job, seat)),
         Ok(None) => Err("none"),
-        Err(fault) => Err(fault.text()),
+        Err(fault) => Err(fault.number_and_name()),
     }
 }
 
@@ -43,6 +43,6 @@ pub fn abandoned(reply: Result<(), FinishFault>, is_own: bool) -> &'static str {
 fn not_ended(fault: FinishFault, is_own: bool) -> &'static str {
     match fault {
         FinishFault::OutOfMemory if is_own => "(the end of an own job found no memory)",
-        fault => fault.text(),
+        fault => fault.number_and_name(),
     }
 }

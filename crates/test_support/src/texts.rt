@@ -58,7 +58,7 @@ impl Texts {
     /// Adds the lines that a word stands for, or it as a line.
     fn add(&self, list: &mut LineList, word: &str) -> Result<(), AllocError> {
         match self.meaning(word) {
-            Some(lines) => list.push_lines(lines, 0, lines.len()),
+            Some(lines) => list.push_line_range_of_other(lines, 0, lines.len()),
             None => self.add_line(list, word),
         }
     }
@@ -68,16 +68,16 @@ impl Texts {
         let mut arguments = CallArguments::new(written);
         match arguments.word() {
             "" => Ok(()),
-            "(empty)" => list.push_if_line(b""),
+            "(empty)" => list.push_unless_newline_inside(b""),
             "(blanks)" => self.add_blanks(list, arguments.number() as usize),
-            _ => list.push_if_line(written.as_bytes()),
+            _ => list.push_unless_newline_inside(written.as_bytes()),
         }
     }
 
     fn add_blanks(&self, list: &mut LineList, count: usize) -> Result<(), AllocError> {
         let mut blanks = Vec::new(self.alloc);
         blanks.resize(count, b' ')?;
-        list.push_if_line(blanks.as_slice())
+        list.push_unless_newline_inside(blanks.as_slice())
     }
 
     /// The text that is written.

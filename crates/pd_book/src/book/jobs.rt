@@ -7,32 +7,32 @@ ghost use Rattle.pd_book.specs.History.{after_act, after_start, handed_task};
 ghost use Rattle.pd_book.specs.Replies.{GivesStart, GivesFinish, GivesAbandon};
 ghost use Rattle.pd_book.specs.Replay.{IsReady};
 ghost use Rattle.pd_book.specs.TrackCache.{track_of, marked_used, should_cache, HandsOutTrack, CachesTrack};
-ghost use Rattle.pd_book.specs.Refusals.{room_refusal, start_refusal, next_job, fault_of, finish_fault};
+ghost use Rattle.pd_book.specs.Refusals.{history_full_fault_unless_space_for, start_refusal, next_job, fault_of, finish_fault};
 
 use super::Book;
 use crate::act::{Act, Ruling};
 use crate::faults::{BookFault, FinishFault};
-use crate::records::{PendingStart, task_of_number};
+use crate::records::{PendingStart, find_task_by_number};
 use pd_text::{Name, Text};
 use pd_track::{Done, Job, Task};
 use std::alloc::AllocError;
 
 impl Book {
     /// The first script that waits.
-    fn first_waiting_script(&self) -> Option<(&Name, &Text)>
+    fn find_first_pending_name_and_text(&self) -> Option<(&Name, &Text)>
         ensures { option_map deref_pair result ≡ next self.now.history.past }
     {
-        match self.records.scripts.first_pending() {
+        match self.records.scripts.find_first_pending_name_and_script() {
             Some((name, script)) => Some((name, &script.text)),
             None => None,
         }
     }
 
     /// The name of the script that the next start is for, if one waits.
-    pub fn next_start_name(&self) -> Option<&Name>
+    pub fn name_of_next_script_to_start(&self) -> Option<&Name>
         ensures { option_copied result ≡ option_map (λ script. script.0) (next self.now.history.past) }
     {
-        match self.first_waiting_script() {
+        match self.find_first_pending_name_and_text() {
             Some((name, _)) => Some(name),
             None => None,
         }
@@ -46,37 +46,41 @@ impl Book {
     }
 
     /// The parts of a start: the job to hand out, the task to keep and the act to record.
-    fn prepare_start(&self) -> Result<Option<PendingStart>, BookFault>
+    fn build_next_start_unless_full(&self) -> Result<Option<PendingStart>, BookFault>
         ensures none { IfOk result (λ p. p ≡ None → next self.now.history.past ≡ None) }
         ensures some { IfOk result (λ p. IfSome p (λ p. IsReady self.now.history.opening self.now.history.past p.job.task p.task p.act)) }
-        ensures room { IfOk result (λ p. IfSome p (λ _. room_refusal 2 self.now.history ≡ None)) }
+        ensures room { IfOk result (λ p. IfSome p (λ _. history_full_fault_unless_space_for 2 self.now.history ≡ None)) }
         ensures track { IfOk result (λ p. IfSome p (λ p. p.job.track ≡ track_of p.job.task.name self.now.tracks)) }
         ensures err { IfErr result (λ e. e ≡ fault_of (start_refusal self.now.history)) }
         ensures waits { OnErr result (IsSome (next self.now.history.past)) }
     {
-        let Some((name, text)) = self.first_waiting_script() else {
+        let Some((name, text)) = self.find_first_pending_name_and_text() else {
             return Ok(None);
         };
-        match self.room_refusal(2) {
+        match self.history_full_fault_unless_space_for(2) {
             Some(fault) => Err(fault),
-            None => Ok(Some(self.prepare_start_of_script(name, text)?)),
+            None => Ok(Some(self.build_start_job_task_and_act(name, text)?)),
         }
     }
 
     /// The same for the script that waits.
-    fn prepare_start_of_script(&self, name: &Name, text: &Text) -> Result<PendingStart, AllocError>
+    fn build_start_job_task_and_act(
+        &self,
+        name: &Name,
+        text: &Text,
+    ) -> Result<PendingStart, AllocError>
         requires { next self.now.history.past ≡ Some (name.now, text.now) }
         ensures ready { IfOk result (λ p. IsReady self.now.history.opening self.now.history.past p.job.task p.task p.act) }
         ensures track { IfOk result (λ p. p.job.track ≡ track_of p.job.task.name self.now.tracks) }
     {
-        let task = self.next_task(name, text)?;
+        let task = self.build_task_for_next_job(name, text)?;
         let job = self.job_with_cached_track(&task)?;
         let act = Act::Start(task.number, name.share()?);
         Ok(PendingStart { job, task, act })
     }
 
     /// The task of the next job where it runs this script.
-    fn next_task(&self, name: &Name, text: &Text) -> Result<Task, AllocError>
+    fn build_task_for_next_job(&self, name: &Name, text: &Text) -> Result<Task, AllocError>
         ensures number { IfOk result (λ task. task.number ≡ started self.now.history.past + 1) }
         ensures name { IfOk result (λ task. task.name ≡ name.now) }
         ensures text { IfOk result (λ task. task.text ≡ text.now) }
@@ -96,7 +100,7 @@ impl Book {
         ensures task { IfOk result (λ job. job.task ≡ task.now) }
         ensures track { IfOk result (λ job. job.track ≡ track_of task.now.name self.now.tracks) }
     {
-        let track = match self.tracks.track(&task.name) {
+        let track = match self.tracks.peek_track(&task.name) {
             Some(track) => Some(track.share()?),
             None => None,
         };
@@ -119,32 +123,32 @@ impl Book {
         ensures same { OnErr result (self.new ≡ self.old) }
         ensures tracks { IfOk result (λ job. HandsOutTrack job self.old.tracks self.new.tracks) }
     {
-        match self.prepare_start()? {
-            Some(pending) => Ok(Some(self.commit_start(pending)?)),
+        match self.build_next_start_unless_full()? {
+            Some(pending) => Ok(Some(self.commit_start_and_hand_out_job(pending)?)),
             None => Ok(None),
         }
     }
 
     /// Hands out a job that is prepared.
-    fn commit_start(&mut self, pending: PendingStart) -> Result<Job, AllocError>
+    fn commit_start_and_hand_out_job(&mut self, pending: PendingStart) -> Result<Job, AllocError>
         requires ready { IsReady self.old.history.opening self.old.history.past pending.job.task pending.task pending.act }
-        requires room { room_refusal 2 self.old.history ≡ None }
+        requires room { history_full_fault_unless_space_for 2 self.old.history ≡ None }
         ensures job { IfOk result (λ job. job ≡ pending.job) }
         ensures ok { OnOk result (self.new.history ≡ after_act self.old.history pending.act) }
         ensures same { OnErr result (self.new ≡ self.old) }
         ensures tracks { OnOk result (self.new.tracks ≡ marked_used pending.job.task.name self.old.tracks) }
     {
-        self.records.make_room_for_start()?;
+        self.records.reserve_acts_and_task_for_start()?;
         self.last_number = pending.job.number();
         self.tracks.mark_used(pending.job.name());
-        Ok(self.records.record_start(pending))
+        Ok(self.records.record_start_and_hand_out_job(pending))
     }
 
     /// The outstanding job of this number.
-    fn outstanding_task(&self, number: u64) -> Option<&Task>
+    fn find_outstanding_task_by_number(&self, number: u64) -> Option<&Task>
         ensures { option_copied result ≡ job self.now.history.opening self.now.history.past number }
     {
-        task_of_number(self.records.tasks.as_slice(), number)
+        find_task_by_number(self.records.tasks.as_slice(), number)
     }
 
     /// How many jobs are outstanding.
@@ -159,7 +163,7 @@ impl Book {
     pub fn is_outstanding(&self, number: u64) -> bool
         ensures { result ≡ is_some (job self.now.history.opening self.now.history.past number) }
     {
-        self.outstanding_task(number).is_some()
+        self.find_outstanding_task_by_number(number).is_some()
     }
 
     /// Whether the script of an outstanding job is unchanged since the job's start.
@@ -173,7 +177,7 @@ impl Book {
     }
 
     /// The ruling on a finish of this job.
-    fn ruling(&self, done: &Done) -> Ruling
+    fn ruling_taken_if_unchanged_else_stale(&self, done: &Done) -> Ruling
         requires { job self.now.history.opening self.now.history.past done.now.number ≡ Some done.now }
         ensures { result ≡ ruling self.now.history.past done.now }
     {
@@ -185,14 +189,14 @@ impl Book {
     }
 
     /// Whether the track of this result is kept.
-    fn should_cache(&self, done: &Done, ruling: Ruling) -> bool
+    fn is_track_taken_or_better_than_cached(&self, done: &Done, ruling: Ruling) -> bool
         ensures { result ≡ should_cache ruling (present_text self.now.history.past done.now.name) done.now self.now.tracks }
     {
         match ruling {
             Ruling::Taken => true,
             // The track of an old text may share more lines with the present one than the kept track.
             Ruling::Stale => match self.text(done.name()) {
-                Some(text) => self.tracks.is_better_than_cached(done, text),
+                Some(text) => self.tracks.shares_more_lines_than_cached(done, text),
                 None => false,
             },
         }
@@ -214,17 +218,18 @@ impl Book {
         ensures same { OnErr result (self.new ≡ self.old) }
         ensures tracks { IfOk result (λ r. CachesTrack r (present_text self.old.history.past done.now.name) done.now self.old.tracks self.new.tracks) }
     {
-        let Some(task) = self.outstanding_task(done.number()) else {
+        let Some(task) = self.find_outstanding_task_by_number(done.number()) else {
             return Err(FinishFault::NoSuchJob);
         };
         if !task.is_same(done.task()) {
             return Err(FinishFault::Foreign);
         }
-        let ruling = self.ruling(done);
-        let should_cache = self.should_cache(done, ruling);
+        let ruling = self.ruling_taken_if_unchanged_else_stale(done);
+        let should_cache = self.is_track_taken_or_better_than_cached(done, ruling);
         self.tracks
-            .cache_track(*self.records.acts.allocator(), done, should_cache);
-        self.records.record_finish(done, ruling);
+            .cache_track_at_front_if_wanted(*self.records.acts.allocator(), done, should_cache);
+        self.records
+            .record_finish_and_store_taken_verdict(done, ruling);
         Ok(ruling)
     }
 
@@ -241,10 +246,10 @@ impl Book {
         ensures same { OnErr result (self.new ≡ self.old) }
         ensures tracks { self.new.tracks ≡ self.old.tracks }
     {
-        let Some(_task) = self.outstanding_task(number) else {
+        let Some(_task) = self.find_outstanding_task_by_number(number) else {
             return Err(FinishFault::NoSuchJob);
         };
-        self.records.record_abandon(number);
+        self.records.record_abandon_drop_task_make_pending(number);
         Ok(())
     }
 }

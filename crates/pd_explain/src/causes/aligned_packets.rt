@@ -2,11 +2,12 @@
 ghost use Rattle.std.specs.Prelude.{◌≡◌, ◌++◌, IfOk, OnOk};
 ghost use Rattle.pd_print.specs.Sent.{packet_of};
 ghost use Rattle.pd_print.specs.Numbers.{time_text};
-ghost use Rattle.pd_explain.specs.AlignedPackets.{relative_time_or_any, comment_of, sent_text, pad_part_before_rest, align_packet_to_other};
+ghost use Rattle.pd_explain.specs.AlignedPackets.{relative_or_any_time_from_base, comment_of, sent_text, pad_part_before_rest, align_packet_to_other};
 ghost use Rattle.pd_explain.specs.Inner.{align_parts_to_other};
 
 use pd_print::{
-    PacketParts, sent_packet, write_fixed_seconds, write_packet_parts, write_sent_event, write_time,
+    PacketParts, render_packet_parts, render_seconds_with_six_decimals, render_sent_segment_event,
+    render_time, script_packet_of_segment,
 };
 use pd_script::{Packet, Time};
 use pd_seg::Sent;
@@ -35,16 +36,16 @@ pub fn aligned_packets(
     sent: &Sent,
     base: u64,
 ) -> Result<AlignedPackets, AllocError>
-    ensures script { IfOk result (λ pair. pair.script.items ≡ align_packet_to_other time.now packet.now (time_text (relative_time_or_any base sent.now.at)) (packet_of sent.now.segment)) }
-    ensures actual { IfOk result (λ pair. pair.actual.items ≡ align_packet_to_other (time_text (relative_time_or_any base sent.now.at)) (packet_of sent.now.segment) time.now packet.now ++ comment_of sent.now.at) }
+    ensures script { IfOk result (λ pair. pair.script.items ≡ align_packet_to_other time.now packet.now (time_text (relative_or_any_time_from_base base sent.now.at)) (packet_of sent.now.segment)) }
+    ensures actual { IfOk result (λ pair. pair.actual.items ≡ align_packet_to_other (time_text (relative_or_any_time_from_base base sent.now.at)) (packet_of sent.now.segment) time.now packet.now ++ comment_of sent.now.at) }
 {
-    let since = write_time(alloc, relative_time_or_any(base, sent.at))?;
-    let segment = sent_packet(alloc, &sent.segment)?;
+    let since = render_time(alloc, relative_or_any_time_from_base(base, sent.at))?;
+    let segment = script_packet_of_segment(alloc, &sent.segment)?;
     let script = align_packet_to_other(alloc, time, packet, &since, &segment)?;
     let actual = align_packet_to_other(alloc, &since, &segment, time, packet)?;
     Ok(AlignedPackets {
         script,
-        actual: append_moment_comment(alloc, actual, sent.at)?,
+        actual: line_followed_by_moment_comment(alloc, actual, sent.at)?,
     })
 }
 
@@ -69,13 +70,17 @@ pub fn write_packet_event(
 pub fn write_sent_with_moment(alloc: Global, sent: &Sent, base: u64) -> Result<Vec<u8>, AllocError>
     ensures { IfOk result (λ line. line.items ≡ sent_text base sent.now) }
 {
-    let line = write_sent_event(alloc, relative_time_or_any(base, sent.at), &sent.segment)?;
-    append_moment_comment(alloc, line, sent.at)
+    let line = render_sent_segment_event(
+        alloc,
+        relative_or_any_time_from_base(base, sent.at),
+        &sent.segment,
+    )?;
+    line_followed_by_moment_comment(alloc, line, sent.at)
 }
 
 /// The time of a moment from the base; `*` where it lies before that, which no written time can express.
-fn relative_time_or_any(base: u64, at: u64) -> Time
-    ensures { result ≡ relative_time_or_any base at }
+fn relative_or_any_time_from_base(base: u64, at: u64) -> Time
+    ensures { result ≡ relative_or_any_time_from_base base at }
 {
     if base <= at {
         Time::Relative(at - base)
@@ -85,10 +90,14 @@ fn relative_time_or_any(base: u64, at: u64) -> Time
 }
 
 /// A line with a moment as a comment.
-fn append_moment_comment(alloc: Global, line: Vec<u8>, at: u64) -> Result<Vec<u8>, AllocError>
+fn line_followed_by_moment_comment(
+    alloc: Global,
+    line: Vec<u8>,
+    at: u64,
+) -> Result<Vec<u8>, AllocError>
     ensures { IfOk result (λ with. with.items ≡ line.items ++ comment_of at) }
 {
-    let moment = write_fixed_seconds(alloc, at)?;
+    let moment = render_seconds_with_six_decimals(alloc, at)?;
     let mut line = line;
     line.extend_from_slice(b" // ")?;
     line.extend_from_slice(&moment)?;
@@ -105,8 +114,8 @@ fn align_packet_to_other(
 ) -> Result<Vec<u8>, AllocError>
     ensures { IfOk result (λ line. line.items ≡ align_packet_to_other time.now packet.now other_time.now other.now) }
 {
-    let parts = write_packet_parts(alloc, packet)?;
-    let others = write_packet_parts(alloc, other)?;
+    let parts = render_packet_parts(alloc, packet)?;
+    let others = render_packet_parts(alloc, other)?;
     align_parts_to_other(alloc, time, &parts, other_time, &others)
 }
 

@@ -25,7 +25,7 @@ pub struct Failure {
 
 impl Failure {
     /// The origin of the packet that was compared, if one was.
-    pub(crate) fn compared_origin(&self) -> Option<Origin> {
+    pub(crate) fn origin_of_compared_packet_if_any(&self) -> Option<Origin> {
         match self.failed {
             Failed::Packet(_) => self.origins.first().copied(),
             Failed::Missing(_) | Failed::Result(_) | Failed::Backwards(_) => None,

@@ -21,13 +21,15 @@ use crate::causes::failure::{
     WrongResult,
 };
 use crate::causes::not_sent_reason::NotSentReason;
-use crate::causes::outlook::outlook_of;
+use crate::causes::outlook::dup_ack_timeout_and_sack_outlook;
 use crate::causes::source_text::SourceText;
-use crate::causes::unmatched::{count_unexpected, list_unmatched};
+use crate::causes::unmatched::{
+    count_unmatched_before_awaited_or_zero, list_first_unmatched_after_skipped,
+};
 use crate::escape::escaped;
 use pd_host::Host;
 use pd_match::Kind;
-use pd_print::write_answer;
+use pd_print::render_answer;
 use pd_run::{Precheck, RunState, StopPoint, StopReason, time_range_of};
 use pd_script::{Action, Event, Packet, Time};
 use pd_seg::{Answer, Sent};
@@ -37,7 +39,7 @@ use std::alloc::{AllocError, Global};
 ///
 /// # Errors
 /// `AllocError` where a growth is refused.
-pub fn failure_at_stop(
+pub fn failure_unless_stopped_by_rule(
     alloc: Global,
     event: &Event,
     stop: &StopPoint,
@@ -46,14 +48,14 @@ pub fn failure_at_stop(
     ensures rules { IfOk result (λ reported. is_some reported ≡ is_failure stop.now.stop_reason) }
     ensures reported { IfOk result (λ reported. IfSome reported (IsFailureOf source_text.time.items event.now stop.now)) }
 {
-    match failed_at_stop(alloc, event, stop, source_text)? {
+    match what_failed_unless_stopped_by_rule(alloc, event, stop, source_text)? {
         None => Ok(None),
-        Some(failed) => Ok(Some(failure_with_sender(alloc, stop, failed)?)),
+        Some(failed) => Ok(Some(failure_with_unmatched_and_sender(alloc, stop, failed)?)),
     }
 }
 
 /// The same without the sender at the stop.
-fn failed_at_stop(
+fn what_failed_unless_stopped_by_rule(
     alloc: Global,
     event: &Event,
     stop: &StopPoint,
@@ -66,19 +68,17 @@ fn failed_at_stop(
     let failed = match &stop.stop_reason {
         StopReason::FailedPrecheck(Precheck::OverLimit | Precheck::NotRun)
         | StopReason::Halted(_) => return Ok(None),
-        StopReason::FailedPrecheck(Precheck::Backwards) => Failed::Backwards(time_backwards(
-            event,
-            before,
-            source_text,
-        )),
+        StopReason::FailedPrecheck(Precheck::Backwards) => Failed::Backwards(
+            describe_time_backwards(event, before, source_text),
+        ),
         StopReason::Missing => {
-            let script = write_script_event(alloc, event, source_text)?;
-            Failed::Missing(missing_packet(alloc, event, before, script)?)
+            let script = write_packet_event_or_source_text(alloc, event, source_text)?;
+            Failed::Missing(describe_missing_packet(alloc, event, before, script)?)
         }
         StopReason::Differs(kind, sent, run) => {
-            Failed::Packet(wrong_packet(alloc, event, *kind, sent, run, source_text)?)
+            Failed::Packet(describe_wrong_packet(alloc, event, *kind, sent, run, source_text)?)
         }
-        StopReason::Answered(answer, _) => Failed::Result(wrong_result(
+        StopReason::Answered(answer, _) => Failed::Result(describe_wrong_result(
             alloc,
             *answer,
             source_text,
@@ -88,7 +88,7 @@ fn failed_at_stop(
 }
 
 /// The run at the stop, whose sender is shown.
-pub fn run_at_stop(stop: &StopPoint) -> &RunState
+pub fn stored_run_of_stop(stop: &StopPoint) -> &RunState
     ensures { result.now.host ≡ sender_at stop.now.before stop.now.stop_reason }
 {
     match &stop.stop_reason {
@@ -99,19 +99,19 @@ pub fn run_at_stop(stop: &StopPoint) -> &RunState
 }
 
 /// The failure, with the sender at the stop and its packets that were put out and not taken, the one compared left out.
-fn failure_with_sender(
+fn failure_with_unmatched_and_sender(
     alloc: Global,
     stop: &StopPoint,
     failed: Failed,
 ) -> Result<Failure, AllocError>
-    ensures failed { IfOk result (λ failure_with_sender. failure_with_sender.failed ≡ failed) }
-    ensures sender { IfOk result (λ failure_with_sender. failure_with_sender.sender ≡ snapshot_of (sender_at stop.now.before stop.now.stop_reason)) }
+    ensures failed { IfOk result (λ failure_with_unmatched_and_sender. failure_with_unmatched_and_sender.failed ≡ failed) }
+    ensures sender { IfOk result (λ failure_with_unmatched_and_sender. failure_with_unmatched_and_sender.sender ≡ snapshot_of (sender_at stop.now.before stop.now.stop_reason)) }
 {
-    let run = run_at_stop(stop);
+    let run = stored_run_of_stop(stop);
     let compared = usize::from(matches!(stop.stop_reason, StopReason::Differs(_, _, _)));
     Ok(Failure {
         failed,
-        unmatched: list_unmatched(alloc, run, compared)?,
+        unmatched: list_first_unmatched_after_skipped(alloc, run, compared)?,
         origins: Vec::new(alloc),
         dropped: Vec::new(alloc),
         sender: sender_snapshot_of(run),
@@ -130,7 +130,11 @@ pub fn sender_snapshot_of(run: &RunState) -> SenderSnapshot
     }
 }
 
-fn time_backwards(event: &Event, before: &RunState, source_text: SourceText) -> TimeBackwards
+fn describe_time_backwards(
+    event: &Event,
+    before: &RunState,
+    source_text: SourceText,
+) -> TimeBackwards
     ensures { result.base ≡ before.now.base }
 {
     TimeBackwards {
@@ -149,7 +153,7 @@ fn absolute_start_or_zero(time: Time) -> u64 {
 }
 
 /// The report of an awaited event, which is shown so.
-fn missing_packet(
+fn describe_missing_packet(
     alloc: Global,
     event: &Event,
     before: &RunState,
@@ -160,14 +164,14 @@ fn missing_packet(
     ensures outlook { IfOk result (λ missing_packet. IsOutlook before.now.host.state missing_packet.outlook) }
 {
     let host = before.host();
-    let reason = NotSentReason::of(&event.action, host.send_blocker()?);
+    let reason = NotSentReason::no_octets_expected_or_blocker(&event.action, host.send_blocker()?);
     Ok(MissingPacket {
         script,
-        expected_time: expected_time(event.time, before),
+        expected_time: expected_time_range_and_tolerance(event.time, before),
         expiry: host.deadline(),
         reason,
         words: not_sent_reason_words(alloc, reason, host)?,
-        outlook: outlook_of(alloc, host)?,
+        outlook: dup_ack_timeout_and_sack_outlook(alloc, host)?,
     })
 }
 
@@ -185,7 +189,7 @@ fn not_sent_reason_words(
 }
 
 /// The event by itself: its time as written, and of a packet what is written.
-fn write_script_event(
+fn write_packet_event_or_source_text(
     alloc: Global,
     event: &Event,
     source_text: SourceText,
@@ -196,7 +200,7 @@ fn write_script_event(
     }
 }
 
-fn wrong_packet(
+fn describe_wrong_packet(
     alloc: Global,
     event: &Event,
     kind: Kind,
@@ -228,21 +232,21 @@ fn wrong_packet(
         actual: pair.actual,
         at: sent.at,
         expected_time: match kind {
-            Kind::Time => expected_time(event.time, run),
+            Kind::Time => expected_time_range_and_tolerance(event.time, run),
             _ => None,
         },
-        unexpected: count_unexpected(event, run),
+        unexpected: count_unmatched_before_awaited_or_zero(event, run),
     })
 }
 
-fn wrong_result(
+fn describe_wrong_result(
     alloc: Global,
     answer: Answer,
     source_text: SourceText,
 ) -> Result<WrongResult, AllocError>
     ensures { IfOk result (λ wrong_result. wrong_result.answer.items ≡ answer_text answer) }
 {
-    let answer = write_answer(alloc, answer)?;
+    let answer = render_answer(alloc, answer)?;
     Ok(WrongResult {
         call: source_text.event,
         expected: source_text.result,
@@ -259,7 +263,7 @@ fn expected_packet_of(event: &Event) -> Option<&Packet> {
 }
 
 /// When a packet with a time is awaited.
-fn expected_time(time: Time, run: &RunState) -> Option<ExpectedTime>
+fn expected_time_range_and_tolerance(time: Time, run: &RunState) -> Option<ExpectedTime>
     ensures { run.now.base < 2 ^ 61 → list_any is_long (written_times time) ≡ false → result ≡ expected_time_of time run.now }
 {
     match time_range_of(run.base(), time) {

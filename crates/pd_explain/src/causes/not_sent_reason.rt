@@ -1,9 +1,9 @@
 //! Why no packet was sent.
 ghost use Rattle.std.specs.Prelude.{◌≡◌};
 ghost use Rattle.pd_explain.specs.Reasons.{send_blocker_key, reason_key};
-ghost use Rattle.pd_explain.specs.SenderSnapshots.{expects_no_octets, reason_of};
+ghost use Rattle.pd_explain.specs.SenderSnapshots.{expects_no_sequence_space, reason_of};
 
-use crate::causes::sentences::{Phrase, put_phrases};
+use crate::causes::sentences::{Phrase, put_concatenated_phrases};
 use pd_host::{ConnectionSnapshot, Recovery, SendBlocker};
 use pd_script::Action;
 use std::alloc::{AllocError, Global};
@@ -44,12 +44,15 @@ struct SendNumbers {
 
 impl NotSentReason {
     /// Why a packet that is expected wasn't sent, by what holds the sender back.
-    pub fn of(expected: &Action, send_blocker: SendBlocker) -> NotSentReason
+    pub fn no_octets_expected_or_blocker(
+        expected: &Action,
+        send_blocker: SendBlocker,
+    ) -> NotSentReason
         ensures { result ≡ reason_of expected.now send_blocker }
     {
         match send_blocker {
             SendBlocker::Reset | SendBlocker::NotEstablished => NotSentReason::Held(send_blocker),
-            _ if expects_no_octets(expected) => NotSentReason::NoOctets,
+            _ if expects_no_sequence_space(expected) => NotSentReason::NoOctets,
             _ => NotSentReason::Held(send_blocker),
         }
     }
@@ -76,7 +79,7 @@ impl NotSentReason {
         wanted: Option<u32>,
     ) -> Result<Vec<u8>, AllocError> {
         match self {
-            NotSentReason::NoOctets => join_phrases(
+            NotSentReason::NoOctets => concatenate_phrases(
                 alloc,
                 &[Words(
                     "the awaited packet has no octets (no data, SYN or FIN), so it is an answer to something that didn't come",
@@ -85,7 +88,7 @@ impl NotSentReason {
             NotSentReason::Held(send_blocker) => {
                 let numbers = SendNumbers {
                     wanted: wanted.unwrap_or(0),
-                    ..SendNumbers::of(connection_snapshot)
+                    ..SendNumbers::from_snapshot_or_all_zero(connection_snapshot)
                 };
                 blocker_in_words(alloc, send_blocker, numbers)
             }
@@ -94,8 +97,8 @@ impl NotSentReason {
 }
 
 /// Whether a packet is expected that has no octets: no data, SYN or FIN.
-fn expects_no_octets(expected: &Action) -> bool
-    ensures { result ≡ expects_no_octets expected.now }
+fn expects_no_sequence_space(expected: &Action) -> bool
+    ensures { result ≡ expects_no_sequence_space expected.now }
 {
     match expected {
         Action::Outbound(packet) => packet.length == 0 && !packet.flags.syn && !packet.flags.fin,
@@ -136,7 +139,7 @@ fn blocker_in_words(
         SendBlocker::Open => "a segment could leave, and nothing has led to sending since",
         _ => return numbered_blocker_in_words(alloc, send_blocker, numbers),
     };
-    join_phrases(alloc, &[Words(words)])
+    concatenate_phrases(alloc, &[Words(words)])
 }
 
 /// A reason that names numbers, in words.
@@ -146,38 +149,38 @@ fn numbered_blocker_in_words(
     numbers: SendNumbers,
 ) -> Result<Vec<u8>, AllocError> {
     match send_blocker {
-        SendBlocker::Acknowledged => join_phrases(
+        SendBlocker::Acknowledged => concatenate_phrases(
             alloc,
             &[
                 Words("all that was handed over is acknowledged: una is end, "),
-                number_phrase(numbers.end),
+                number_as_phrase(numbers.end),
             ],
         ),
-        SendBlocker::AllSent => join_phrases(
+        SendBlocker::AllSent => concatenate_phrases(
             alloc,
             &[
                 Words("all that is queued was sent, up to "),
-                number_phrase(numbers.end),
+                number_as_phrase(numbers.end),
                 Words(", and only the timer sends the oldest again (RFC 6298, section 5.4)"),
             ],
         ),
-        SendBlocker::PeerWindow => join_phrases(
+        SendBlocker::PeerWindow => concatenate_phrases(
             alloc,
             &[
                 Words("octet "),
-                number_phrase(numbers.wanted),
+                number_as_phrase(numbers.wanted),
                 Words(" lies beyond the peer's window, which ends before octet "),
-                number_phrase(numbers.peer_edge),
+                number_as_phrase(numbers.peer_edge),
                 Words(" (RFC 9293, section 3.8.6)"),
             ],
         ),
-        SendBlocker::CongestionWindow => join_phrases(
+        SendBlocker::CongestionWindow => concatenate_phrases(
             alloc,
             &[
                 Words("octet "),
-                number_phrase(numbers.wanted),
+                number_as_phrase(numbers.wanted),
                 Words(" lies beyond the congestion window, which ends before octet "),
-                number_phrase(numbers.congestion_edge),
+                number_as_phrase(numbers.congestion_edge),
                 Words(" (RFC 5681, section 3.1)"),
             ],
         ),
@@ -192,60 +195,60 @@ fn segment_blocker_in_words(
     numbers: SendNumbers,
 ) -> Result<Vec<u8>, AllocError> {
     match send_blocker {
-        SendBlocker::PipeFull => join_phrases(
+        SendBlocker::PipeFull => concatenate_phrases(
             alloc,
             &[
                 Words("in recovery with SACK, cwnd "),
-                number_phrase(numbers.cwnd),
+                number_as_phrase(numbers.cwnd),
                 Words(" less the pipe "),
-                number_phrase(numbers.pipe),
+                number_as_phrase(numbers.pipe),
                 Words(" is below SMSS "),
-                number_phrase(numbers.smss),
+                number_as_phrase(numbers.smss),
                 Words(" (RFC 6675, section 5, step C)"),
             ],
         ),
-        SendBlocker::PartOfSegment => join_phrases(
+        SendBlocker::PartOfSegment => concatenate_phrases(
             alloc,
             &[
                 Words("the windows leave only "),
-                number_phrase(numbers.usable),
+                number_as_phrase(numbers.usable),
                 Words(" octets of a segment of "),
-                number_phrase(numbers.unsent.min(numbers.smss)),
+                number_as_phrase(numbers.unsent.min(numbers.smss)),
                 Words(" (RFC 9293, section 3.8.6.2.1)"),
             ],
         ),
-        _ => join_phrases(
+        _ => concatenate_phrases(
             alloc,
             &[
                 Words("Nagle's algorithm holds "),
-                number_phrase(numbers.held_octets()),
-                Words(if numbers.held_octets() == 1 {
+                number_as_phrase(numbers.unsent_octets_within_windows()),
+                Words(if numbers.unsent_octets_within_windows() == 1 {
                     " octet, less than SMSS "
                 } else {
                     " octets, less than SMSS "
                 }),
-                number_phrase(numbers.smss),
+                number_as_phrase(numbers.smss),
                 Words(", while "),
-                number_phrase(numbers.flight),
+                number_as_phrase(numbers.flight),
                 Words(" are outstanding (RFC 9293, section 3.7.4)"),
             ],
         ),
     }
 }
 
-fn number_phrase(number_phrase: u32) -> Phrase {
+fn number_as_phrase(number_phrase: u32) -> Phrase {
     Phrase::Number(u64::from(number_phrase))
 }
 
 /// The pieces one after the other.
-fn join_phrases(alloc: Global, pieces: &[Phrase]) -> Result<Vec<u8>, AllocError> {
+fn concatenate_phrases(alloc: Global, pieces: &[Phrase]) -> Result<Vec<u8>, AllocError> {
     let mut words = Vec::new(alloc);
-    put_phrases(&mut words, pieces)?;
+    put_concatenated_phrases(&mut words, pieces)?;
     Ok(words)
 }
 
 impl SendNumbers {
-    fn of(connection_snapshot: Option<ConnectionSnapshot>) -> SendNumbers {
+    fn from_snapshot_or_all_zero(connection_snapshot: Option<ConnectionSnapshot>) -> SendNumbers {
         let Some(connection_snapshot) = connection_snapshot else {
             return SendNumbers::all_zero();
         };
@@ -276,7 +279,7 @@ impl SendNumbers {
     }
 
     /// How many octets may leave by the windows.
-    fn held_octets(self) -> u32 {
+    fn unsent_octets_within_windows(self) -> u32 {
         self.unsent.min(self.usable)
     }
 

@@ -2,7 +2,7 @@
 ghost use Rattle.std.specs.Prelude.{◌≡◌, ◌-◌, IfOk, length, take};
 ghost use Rattle.pd_explain.specs.Outlook.{sacked_limit, ListsSacked, IsOutlook};
 
-use crate::causes::sentences::{Phrase, put_phrases};
+use crate::causes::sentences::{Phrase, put_concatenated_phrases};
 use Phrase::{Moment, Number, Words};
 use pd_host::{DupAckEffect, Host, LossEvidence, SackEvidence};
 use pd_seg::Span;
@@ -42,33 +42,36 @@ pub struct SackedRanges {
 ///
 /// # Errors
 /// `AllocError` where a growth is refused.
-pub fn outlook_of(alloc: Global, host: &Host) -> Result<Outlook, AllocError>
+pub fn dup_ack_timeout_and_sack_outlook(alloc: Global, host: &Host) -> Result<Outlook, AllocError>
     ensures { IfOk result (IsOutlook host.now.state) }
 {
-    let dup_ack_effect = host.dup_ack_effect();
+    let dup_ack_effect = host.next_dup_ack_effect_if_any();
     let timeout = host.rto_derivation();
-    let sacked = sacked_ranges_of(alloc, host)?;
+    let sacked = lowest_sacked_ranges_of_sender(alloc, host)?;
     Ok(Outlook {
         dup_ack_effect,
         duplicates_words: words_of_dup_acks(alloc, dup_ack_effect)?,
         timeout,
-        timeout_words: words_of_timeout(alloc, timeout, host)?,
+        timeout_words: rto_derivation_words_if_timer_runs(alloc, timeout, host)?,
         sacked_words: words_of_sacked(alloc, &sacked)?,
         sacked,
     })
 }
 
 /// The octets that are SACKed at a sender.
-fn sacked_ranges_of(alloc: Global, host: &Host) -> Result<SackedRanges, AllocError>
+fn lowest_sacked_ranges_of_sender(alloc: Global, host: &Host) -> Result<SackedRanges, AllocError>
     ensures { IfOk result (ListsSacked host.now.state) }
 {
-    let sacked = first_sacked_ranges(alloc, host.sacked_runs())?;
+    let sacked = first_ranges_and_count_of_more(alloc, host.sacked_runs())?;
     Ok(sacked)
 }
 
 /// The lowest of some ranges, and how many more there are.
 #[tactic(auto, using(crate::proofs::OutlookLemmas::first_listed))]
-fn first_sacked_ranges(alloc: Global, ranges: &[Span]) -> Result<SackedRanges, AllocError>
+fn first_ranges_and_count_of_more(
+    alloc: Global,
+    ranges: &[Span],
+) -> Result<SackedRanges, AllocError>
     ensures listed { IfOk result (λ sacked. sacked.ranges.items ≡ take sacked_limit ranges.now) }
     ensures more { IfOk result (λ sacked. sacked.more ≡ length ranges.now - sacked_limit) }
 {
@@ -86,7 +89,7 @@ fn words_of_dup_acks(
     let mut words = Vec::new(alloc);
     match dup_ack_effect {
         None => {}
-        Some(DupAckEffect::Below(number)) => put_phrases(
+        Some(DupAckEffect::Below(number)) => put_concatenated_phrases(
             &mut words,
             &[
                 Words("no duplicate begins it before una is "),
@@ -109,19 +112,19 @@ fn put_loss_evidence(words: &mut Vec<u8>, loss_evidence: LossEvidence) -> Result
     ];
     match loss_evidence.sacked {
         Some(above) if loss_evidence.dup_acks > 0 || above.octets > 0 => {
-            put_phrases(words, &counted)?;
+            put_concatenated_phrases(words, &counted)?;
             put_sack_evidence(words, above)
         }
         None if loss_evidence.dup_acks > 0 => {
-            put_phrases(words, &counted)?;
-            put_phrases(words, &[Words(" (RFC 5681, section 3.2)")])
+            put_concatenated_phrases(words, &counted)?;
+            put_concatenated_phrases(words, &[Words(" (RFC 5681, section 3.2)")])
         }
         _ => Ok(()),
     }
 }
 
 fn put_sack_evidence(words: &mut Vec<u8>, above: SackEvidence) -> Result<(), AllocError> {
-    put_phrases(
+    put_concatenated_phrases(
         words,
         &[
             Words("; "),
@@ -138,7 +141,7 @@ fn put_sack_evidence(words: &mut Vec<u8>, above: SackEvidence) -> Result<(), All
 }
 
 /// How the timeout comes about, where the timer ranges.
-fn words_of_timeout(
+fn rto_derivation_words_if_timer_runs(
     alloc: Global,
     timeout: Option<Timeout>,
     host: &Host,
@@ -148,7 +151,7 @@ fn words_of_timeout(
         (Some(timeout), Some(connection_snapshot), Some(_)) => {
             put_computed_rto(&mut words, timeout)?;
             put_rto_bound(&mut words, timeout)?;
-            put_backed_off_rto(&mut words, timeout, connection_snapshot.rto_us)?;
+            put_rto_value_if_backed_off(&mut words, timeout, connection_snapshot.rto_us)?;
         }
         _ => {}
     }
@@ -157,10 +160,10 @@ fn words_of_timeout(
 
 fn put_computed_rto(words: &mut Vec<u8>, timeout: Timeout) -> Result<(), AllocError> {
     let estimate = timeout.estimate;
-    put_phrases(words, &[Words("SRTT "), Moment(estimate.srtt)])?;
+    put_concatenated_phrases(words, &[Words("SRTT "), Moment(estimate.srtt)])?;
     match timeout.granularity_us {
-        None => put_phrases(words, &[Words(" and RTTVAR "), Moment(estimate.rttvar)])?,
-        Some(granularity_us) => put_phrases(
+        None => put_concatenated_phrases(words, &[Words(" and RTTVAR "), Moment(estimate.rttvar)])?,
+        Some(granularity_us) => put_concatenated_phrases(
             words,
             &[
                 Words(", RTTVAR "),
@@ -170,14 +173,17 @@ fn put_computed_rto(words: &mut Vec<u8>, timeout: Timeout) -> Result<(), AllocEr
             ],
         )?,
     }
-    put_phrases(
+    put_concatenated_phrases(
         words,
-        &[Words(" make "), Moment(capped_computed_us(timeout))],
+        &[
+            Words(" make "),
+            Moment(computed_rto_us_capped_at_u64(timeout)),
+        ],
     )
 }
 
 /// RTO before its bounds, up to 2^64 - 1.
-pub fn capped_computed_us(timeout: Timeout) -> u64 {
+pub fn computed_rto_us_capped_at_u64(timeout: Timeout) -> u64 {
     timeout.computed_us.min(u128::from(u64::MAX)) as u64
 }
 
@@ -200,7 +206,7 @@ fn put_rto_bound(words: &mut Vec<u8>, timeout: Timeout) -> Result<(), AllocError
         } else {
             " lowers to "
         };
-        put_phrases(
+        put_concatenated_phrases(
             words,
             &[
                 Words(", which "),
@@ -210,11 +216,11 @@ fn put_rto_bound(words: &mut Vec<u8>, timeout: Timeout) -> Result<(), AllocError
             ],
         )?;
     }
-    put_phrases(words, &[Words(" (RFC 6298, section 2)")])
+    put_concatenated_phrases(words, &[Words(" (RFC 6298, section 2)")])
 }
 
 /// Adds what expiries have made of RTO.
-fn put_backed_off_rto(
+fn put_rto_value_if_backed_off(
     words: &mut Vec<u8>,
     timeout: Timeout,
     rto_us: u64,
@@ -222,7 +228,7 @@ fn put_backed_off_rto(
     if rto_us == timeout.bounded_us {
         return Ok(());
     }
-    put_phrases(
+    put_concatenated_phrases(
         words,
         &[
             Words("; expiries have made it "),
@@ -236,13 +242,13 @@ fn words_of_sacked(alloc: Global, sacked: &SackedRanges) -> Result<Vec<u8>, Allo
     let mut words = Vec::new(alloc);
     for run in &sacked.ranges {
         if !words.is_empty() {
-            put_phrases(&mut words, &[Words(", ")])?;
+            put_concatenated_phrases(&mut words, &[Words(", ")])?;
         }
         words.extend_from_slice(&span_text(alloc, *run)?)?;
     }
     if sacked.more > 0 {
         let more = [Words(" and "), Number(sacked.more as u64), Words(" more")];
-        put_phrases(&mut words, &more)?;
+        put_concatenated_phrases(&mut words, &more)?;
     }
     Ok(words)
 }
@@ -258,6 +264,6 @@ pub fn span_text(alloc: Global, run: Span) -> Result<Vec<u8>, AllocError> {
         Words(":"),
         Number(u64::from(run.end)),
     ];
-    put_phrases(&mut text, &pieces)?;
+    put_concatenated_phrases(&mut text, &pieces)?;
     Ok(text)
 }

@@ -1,6 +1,6 @@
 //! Sentences from pieces.
 use itoa::Buffer;
-use pd_print::write_fixed_seconds;
+use pd_print::render_seconds_with_six_decimals;
 use std::alloc::AllocError;
 
 /// A piece of a sentence.
@@ -16,14 +16,17 @@ pub enum Phrase {
 ///
 /// # Errors
 /// `AllocError` where a growth is refused.
-pub fn put_phrases(out: &mut Vec<u8>, pieces: &[Phrase]) -> Result<(), AllocError> {
+pub fn put_concatenated_phrases(out: &mut Vec<u8>, pieces: &[Phrase]) -> Result<(), AllocError> {
     let mut buffer = Buffer::new();
     for piece in pieces {
         match piece {
             Phrase::Words(text) => out.extend_from_slice(text.as_bytes())?,
             Phrase::Number(number) => out.extend_from_slice(buffer.format(*number).as_bytes())?,
             Phrase::Moment(moment) => {
-                out.extend_from_slice(&write_fixed_seconds(*out.allocator(), *moment)?)?;
+                out.extend_from_slice(&render_seconds_with_six_decimals(
+                    *out.allocator(),
+                    *moment,
+                )?)?;
             }
         }
     }

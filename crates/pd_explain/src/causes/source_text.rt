@@ -19,7 +19,7 @@ pub struct SourceText {
 ///
 /// # Errors
 /// `AllocError` where a growth is refused.
-pub fn source_text_at(
+pub fn raw_event_time_and_result_text(
     alloc: Global,
     lines: &Lines,
     from: Place,

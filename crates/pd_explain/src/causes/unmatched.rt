@@ -24,7 +24,7 @@ const MAX_LISTED: usize = 10;
 ///
 /// # Errors
 /// `AllocError` where a growth is refused.
-pub fn list_unmatched(
+pub fn list_first_unmatched_after_skipped(
     alloc: Global,
     run: &RunState,
     skipped: usize,
@@ -46,11 +46,13 @@ pub fn list_unmatched(
 
 /// How many of a run's unmatched packets no line expects: those that come before the first which an event awaits. Each moves the
 /// base of times as one that an event takes does. 0 where the awaited one isn't among them.
-pub fn count_unexpected(event: &Event, run: &RunState) -> usize
+pub fn count_unmatched_before_awaited_or_zero(event: &Event, run: &RunState) -> usize
     ensures { CountsUnexpected event.now run.now result }
 {
     match &event.action {
-        Action::Outbound(packet) => count_before_match(packet, event.time, run).unwrap_or(0),
+        Action::Outbound(packet) => count_unmatched_before_match_if_any(
+            packet, event.time, run,
+        ).unwrap_or(0),
         Action::Inbound(_) => 0,
         Action::Call(_) => 0,
         Action::Command => 0,
@@ -59,7 +61,7 @@ pub fn count_unexpected(event: &Event, run: &RunState) -> usize
 }
 
 /// How many come before the first that agrees with an expected packet; nothing where none does.
-fn count_before_match(packet: &Packet, time: Time, run: &RunState) -> Option<usize>
+fn count_unmatched_before_match_if_any(packet: &Packet, time: Time, run: &RunState) -> Option<usize>
     ensures { IsEarly run.now → list_any is_long (written_times time) ≡ false → result ≡ before_awaited packet.now time (tolerance_of run.now) run.now.base (unmatched run.now) }
 {
     let outbox = run.host().outbox();

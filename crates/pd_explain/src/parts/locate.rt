@@ -1,7 +1,7 @@
 //! Where parts of a text stand, and how they are shown.
 ghost use Rattle.std.specs.Prelude.{◌≡◌, IfOk, take, drop};
 ghost use Rattle.pd_lex.specs.Lexing.{items};
-ghost use Rattle.pd_explain.specs.Parts.{event_place, before_first_token, found, place_of_part, line_or_empty, IsShownAt};
+ghost use Rattle.pd_explain.specs.Parts.{place_of_event_after_passed, before_first_token, found, place_of_part_or_from, line_or_empty, IsShownAt};
 
 use crate::escape::escaped;
 use crate::parts::nesting::Nesting;
@@ -25,8 +25,8 @@ pub struct ShownPart {
 
 /// Where the event of a text that was read stands that comes after so many others: at the token after those, the first one after
 /// the header.
-pub fn event_place(reading: &Reading, passed: usize) -> Place
-    ensures { result ≡ event_place reading.now passed }
+pub fn place_of_event_after_passed(reading: &Reading, passed: usize) -> Place
+    ensures { result ≡ place_of_event_after_passed reading.now passed }
 {
     let end = reading.header().end();
     if passed == 0 {
@@ -39,8 +39,8 @@ pub fn event_place(reading: &Reading, passed: usize) -> Place
 }
 
 /// Where the first such part from a place on begins; that place where there is none.
-pub fn place_of_part(lines: &Lines, from: Place, part: RulePart) -> Place
-    ensures { result ≡ place_of_part part lines.now from }
+pub fn place_of_part_or_from(lines: &Lines, from: Place, part: RulePart) -> Place
+    ensures { result ≡ place_of_part_or_from part lines.now from }
 {
     match find_part(lines, from, part) {
         Some(place) => place,

@@ -1,6 +1,6 @@
 //! The brackets and commas before a token of an event.
 ghost use Rattle.std.specs.Prelude.{◌≡◌};
-ghost use Rattle.pd_explain.specs.Parts.{before_first_token, capped_increment, depth_after, commas_after, colons_after, after_role};
+ghost use Rattle.pd_explain.specs.Parts.{before_first_token, capped_increment, depth_after, commas_at_depth_one_after, colons_since_sack_after, after_role};
 
 use crate::parts::token_roles::TokenRole;
 
@@ -41,8 +41,8 @@ impl Nesting {
         Nesting {
             last: role,
             depth: depth_after(self.depth, role),
-            commas: commas_after(self.depth, self.commas, role),
-            colons: colons_after(self.colons, role),
+            commas: commas_at_depth_one_after(self.depth, self.commas, role),
+            colons: colons_since_sack_after(self.colons, role),
         }
     }
 }
@@ -63,8 +63,8 @@ fn depth_after(depth: usize, role: TokenRole) -> usize
     }
 }
 
-fn commas_after(depth: usize, commas: usize, role: TokenRole) -> usize
-    ensures { result ≡ commas_after depth commas role }
+fn commas_at_depth_one_after(depth: usize, commas: usize, role: TokenRole) -> usize
+    ensures { result ≡ commas_at_depth_one_after depth commas role }
 {
     match role {
         TokenRole::Comma => {
@@ -78,8 +78,8 @@ fn commas_after(depth: usize, commas: usize, role: TokenRole) -> usize
     }
 }
 
-fn colons_after(colons: usize, role: TokenRole) -> usize
-    ensures { result ≡ colons_after colons role }
+fn colons_since_sack_after(colons: usize, role: TokenRole) -> usize
+    ensures { result ≡ colons_since_sack_after colons role }
 {
     match role {
         TokenRole::Sack => 0,

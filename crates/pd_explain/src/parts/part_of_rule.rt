@@ -1,25 +1,25 @@
 //! Which part of a text each rule is about.
 ghost use Rattle.std.specs.Prelude.{◌≡◌};
-ghost use Rattle.pd_explain.specs.Parts.{overlong_time_part, number_part, shape_part, input_part, part_of, header_part};
+ghost use Rattle.pd_explain.specs.Parts.{overlong_time_part, part_of_number_over_limit, part_of_unsupported_shape, part_of_unsupported_input, part_of, rule_part_of_header_item};
 
 use crate::parts::rule_part::RulePart;
 use crate::rules::{LimitedNumber, Rule, UnsupportedInput, UnsupportedShape, is_time_long};
 use pd_script::{Event, HeaderKind};
 
 /// The part of an event that the rule which stops a script there is about.
-pub fn part_of(rule: Rule, event: &Event) -> RulePart
+pub fn rule_part_of_event(rule: Rule, event: &Event) -> RulePart
     ensures { result ≡ part_of rule event.now }
 {
     match rule {
-        Rule::Over(number) => number_part(number, event),
-        Rule::NotRun(shape) => shape_part(shape),
-        Rule::NotTaken(input) => input_part(input),
+        Rule::Over(number) => part_of_number_over_limit(number, event),
+        Rule::NotRun(shape) => part_of_unsupported_shape(shape),
+        Rule::NotTaken(input) => part_of_unsupported_input(input),
     }
 }
 
 /// The part of a header item that the rule which stops a script there is about.
-pub fn header_part(kind: HeaderKind) -> RulePart
-    ensures { result ≡ header_part kind }
+pub fn rule_part_of_header_item(kind: HeaderKind) -> RulePart
+    ensures { result ≡ rule_part_of_header_item kind }
 {
     match kind {
         HeaderKind::Command => RulePart::Command,
@@ -29,8 +29,8 @@ pub fn header_part(kind: HeaderKind) -> RulePart
 }
 
 /// A number over its limit; a full outbox is about the event.
-fn number_part(number: LimitedNumber, event: &Event) -> RulePart
-    ensures { result ≡ number_part number event.now }
+fn part_of_number_over_limit(number: LimitedNumber, event: &Event) -> RulePart
+    ensures { result ≡ part_of_number_over_limit number event.now }
 {
     match number {
         LimitedNumber::Time => overlong_time_part(event),
@@ -59,8 +59,8 @@ fn overlong_time_part(event: &Event) -> RulePart
     }
 }
 
-fn shape_part(shape: UnsupportedShape) -> RulePart
-    ensures { result ≡ shape_part shape }
+fn part_of_unsupported_shape(shape: UnsupportedShape) -> RulePart
+    ensures { result ≡ part_of_unsupported_shape shape }
 {
     match shape {
         UnsupportedShape::HeaderOption => RulePart::HeaderOption,
@@ -77,8 +77,8 @@ fn shape_part(shape: UnsupportedShape) -> RulePart
 }
 
 /// An input that isn't run in the sender's state: the call's name, or of a packet what makes it so.
-fn input_part(input: UnsupportedInput) -> RulePart
-    ensures { result ≡ input_part input }
+fn part_of_unsupported_input(input: UnsupportedInput) -> RulePart
+    ensures { result ≡ part_of_unsupported_input input }
 {
     match input {
         UnsupportedInput::SecondSocket => RulePart::Word,

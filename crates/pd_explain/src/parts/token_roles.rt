@@ -1,7 +1,7 @@
 //! The role of a token in the search for the part that a rule is about.
 ghost use Rattle.std.specs.Prelude.{◌≡◌};
 ghost use Rattle.std.specs.Str.{bytes_eq};
-ghost use Rattle.pd_explain.specs.Parts.{role_of, word_role, octet_role, header_option_role, is_number_above, is_whole_number, is_word, is_named_option, can_end_flags, can_precede_edge, is_dots, is_command, is_code, is_header_option, is_arrow, is_colon, is_comma, is_parenthesis, is_ack, is_win, is_mss, is_wscale};
+ghost use Rattle.pd_explain.specs.Parts.{role_of, word_role, octet_role, header_option_role, is_number_above, is_whole_number, is_word, is_named_option, can_end_flags, can_precede_edge, is_dots, is_command, is_code, is_unsupported_header_option, is_inbound_arrow, is_colon, is_comma, is_opening_parenthesis, is_ack, is_win, is_mss, is_wscale};
 
 use pd_lex::{Token, TokenKind};
 use pd_script::HeaderKind;
@@ -65,7 +65,7 @@ impl TokenRole {
             TokenKind::Dots => TokenRole::Dots,
             TokenKind::Cmd => TokenRole::Command,
             TokenKind::Code => TokenRole::Code,
-            TokenKind::Opt => header_option_role(HeaderKind::of_option(token.text)),
+            TokenKind::Opt => header_option_role(HeaderKind::tolerance_or_other_option(token.text)),
             TokenKind::Hex => TokenRole::Other,
             TokenKind::Decimal => TokenRole::Other,
             TokenKind::Str => TokenRole::Other,
@@ -148,15 +148,15 @@ impl TokenRole {
     }
 
     /// An option of the header, but for a tolerance within its limit.
-    pub fn is_header_option(self) -> bool
-        ensures { result ≡ is_header_option self }
+    pub fn is_unsupported_header_option(self) -> bool
+        ensures { result ≡ is_unsupported_header_option self }
     {
         matches!(self, TokenRole::HeaderOption)
     }
 
     /// `<`.
-    pub fn is_arrow(self) -> bool
-        ensures { result ≡ is_arrow self }
+    pub fn is_inbound_arrow(self) -> bool
+        ensures { result ≡ is_inbound_arrow self }
     {
         matches!(self, TokenRole::Arrow)
     }
@@ -176,8 +176,8 @@ impl TokenRole {
     }
 
     /// `(`.
-    pub fn is_parenthesis(self) -> bool
-        ensures { result ≡ is_parenthesis self }
+    pub fn is_opening_parenthesis(self) -> bool
+        ensures { result ≡ is_opening_parenthesis self }
     {
         matches!(self, TokenRole::Parenthesis)
     }

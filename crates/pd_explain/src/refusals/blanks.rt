@@ -20,14 +20,14 @@ pub fn column_of_bad_token(lines: &Lines, place: Place, line: usize) -> usize {
     let mut at = place.at;
     for number in place.line..line.saturating_add(1) {
         let octets = lines.line(number).unwrap_or(&[]);
-        gap = scan_blanks(octets, at, gap.is_open);
+        gap = scan_blanks_and_comments(octets, at, gap.is_open);
         at = 0;
     }
     gap.column
 }
 
 /// Goes over blanks and comments of a line from a column on, within a comment or not.
-fn scan_blanks(line: &[u8], at: usize, is_inside: bool) -> BlankScan {
+fn scan_blanks_and_comments(line: &[u8], at: usize, is_inside: bool) -> BlankScan {
     let mut is_open = is_inside;
     let mut column = 0;
     let mut rest = &line[at.min(line.len())..];

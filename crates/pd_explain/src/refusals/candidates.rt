@@ -79,7 +79,7 @@ struct Candidates<'a> {
 ///
 /// # Errors
 /// `AllocError` where a growth is refused.
-pub fn list_expected(
+pub fn list_candidates_that_can_follow(
     alloc: Global,
     before: &[u8],
     expected_packet_length: Option<u64>,
@@ -90,9 +90,9 @@ pub fn list_expected(
         expected: Vec::new(alloc),
     };
     if candidates.script_goes_on_with(ONLY_INSIDE)? {
-        candidates.try_candidates(&INSIDE)?;
+        candidates.put_candidates_if_accepted(&INSIDE)?;
     } else {
-        candidates.try_outside_arguments(expected_packet_length)?;
+        candidates.put_accepted_outside_arguments(expected_packet_length)?;
     }
     Ok(candidates.expected)
 }
@@ -102,127 +102,133 @@ impl Candidates<'_> {
         script_goes_on_with(self.alloc, self.before, candidate)
     }
 
-    fn put_expected(&mut self, words: &str) -> Result<(), AllocError> {
+    fn push_expected_words(&mut self, words: &str) -> Result<(), AllocError> {
         let words = Vec::from_slice(self.alloc, words.as_bytes())?;
         self.expected.push(words)?;
         Ok(())
     }
 
-    fn try_candidates(
+    fn put_candidates_if_accepted(
         &mut self,
         candidates: &[(&'static str, &'static str)],
     ) -> Result<(), AllocError> {
         for (candidate, words) in candidates {
             if self.script_goes_on_with(candidate.as_bytes())? {
-                self.put_expected(words)?;
+                self.push_expected_words(words)?;
             }
         }
         Ok(())
     }
 
     /// Outside arguments and notes. Where an event may begin, a time stands for its parts.
-    fn try_outside_arguments(
+    fn put_accepted_outside_arguments(
         &mut self,
         expected_packet_length: Option<u64>,
     ) -> Result<(), AllocError> {
         let begins_event = self.script_goes_on_with(SOME_TIME)?;
         let is_word = self.script_goes_on_with(SOME_WORD)?;
-        self.try_before_numbers(is_word)?;
+        self.put_accepted_before_numbers(is_word)?;
         if !begins_event {
-            self.try_number(expected_packet_length)?;
+            self.put_plus_and_number_if_accepted(expected_packet_length)?;
         }
-        self.try_after_numbers(is_word)?;
-        self.try_next_time_and_end(begins_event)
+        self.put_accepted_after_numbers(is_word)?;
+        self.put_next_time_and_end_if_accepted(begins_event)
     }
 
-    fn try_before_numbers(&mut self, is_word: bool) -> Result<(), AllocError> {
-        self.try_candidates(&FIRST)?;
+    fn put_accepted_before_numbers(&mut self, is_word: bool) -> Result<(), AllocError> {
+        self.put_candidates_if_accepted(&FIRST)?;
         if is_word {
-            self.try_call_or_error_name()?;
+            self.put_call_name_or_else_error_name()?;
         } else {
-            self.try_flags()?;
+            self.put_flags_if_accepted()?;
         }
-        self.try_candidates(&BEFORE_NUMBERS)
+        self.put_candidates_if_accepted(&BEFORE_NUMBERS)
     }
 
-    fn try_after_numbers(&mut self, is_word: bool) -> Result<(), AllocError> {
-        self.try_candidates(&AFTER_NUMBERS)?;
+    fn put_accepted_after_numbers(&mut self, is_word: bool) -> Result<(), AllocError> {
+        self.put_candidates_if_accepted(&AFTER_NUMBERS)?;
         if !is_word {
-            self.try_candidates(&NAMES)?;
+            self.put_candidates_if_accepted(&NAMES)?;
         }
-        self.try_candidates(&LAST)
+        self.put_candidates_if_accepted(&LAST)
     }
 
     /// The candidates after a whole event: the time of the next one, and the end of the text.
-    fn try_next_time_and_end(&mut self, begins_event: bool) -> Result<(), AllocError> {
+    fn put_next_time_and_end_if_accepted(&mut self, begins_event: bool) -> Result<(), AllocError> {
         if begins_event {
-            self.put_expected("a time")?;
+            self.push_expected_words("a time")?;
         }
         if is_script(self.alloc, self.before)? {
-            self.put_expected("the end of the text")?;
+            self.push_expected_words("the end of the text")?;
         }
         Ok(())
     }
 
-    fn try_call_or_error_name(&mut self) -> Result<(), AllocError> {
+    fn put_call_name_or_else_error_name(&mut self) -> Result<(), AllocError> {
         if self.script_goes_on_with(SOME_CALL)? {
-            self.put_expected("the name of a call")
+            self.push_expected_words("the name of a call")
         } else {
-            self.put_expected("the name of an error")
+            self.push_expected_words("the name of an error")
         }
     }
 
-    fn try_flags(&mut self) -> Result<(), AllocError> {
+    fn put_flags_if_accepted(&mut self) -> Result<(), AllocError> {
         if self.script_goes_on_with(b"S")? {
-            self.put_expected("letters of flags")?;
+            self.push_expected_words("letters of flags")?;
         }
         Ok(())
     }
 
     /// A number is tried by the least and the greatest that are written in 32 bits.
-    fn try_number(&mut self, expected_packet_length: Option<u64>) -> Result<(), AllocError> {
+    fn put_plus_and_number_if_accepted(
+        &mut self,
+        expected_packet_length: Option<u64>,
+    ) -> Result<(), AllocError> {
         if self.script_goes_on_with(b"+")? {
-            self.put_expected("`+`")?;
+            self.push_expected_words("`+`")?;
         }
         if self.script_goes_on_with(b"4294967295.999999")? {
             if self.script_goes_on_with(b"0.0")? {
-                self.put_expected("seconds below 4,294,967,296")
+                self.push_expected_words("seconds below 4,294,967,296")
             } else {
-                self.put_expected("seconds from the first number on, below 4,294,967,296")
+                self.push_expected_words("seconds from the first number on, below 4,294,967,296")
             }
         } else {
-            self.try_packet_length(expected_packet_length)
+            self.put_packet_length_or_whole_number(expected_packet_length)
         }
     }
 
     /// Where a packet's length comes, it is the only number.
-    fn try_packet_length(&mut self, expected_packet_length: Option<u64>) -> Result<(), AllocError> {
+    fn put_packet_length_or_whole_number(
+        &mut self,
+        expected_packet_length: Option<u64>,
+    ) -> Result<(), AllocError> {
         let Some(octets) = expected_packet_length else {
-            return self.try_whole_number();
+            return self.put_whole_number_if_accepted();
         };
         let mut buffer = Buffer::new();
         if !self.script_goes_on_with(buffer.format(octets).as_bytes())? {
-            return self.try_whole_number();
+            return self.put_whole_number_if_accepted();
         }
-        let words = quoted_number(self.alloc, octets)?;
+        let words = backquoted_number(self.alloc, octets)?;
         self.expected.push(words)?;
         Ok(())
     }
 
-    fn try_whole_number(&mut self) -> Result<(), AllocError> {
+    fn put_whole_number_if_accepted(&mut self) -> Result<(), AllocError> {
         if !self.script_goes_on_with(b"4294967295")? {
             return Ok(());
         }
         if self.script_goes_on_with(b"0")? {
-            self.put_expected("a whole number up to 4,294,967,295")
+            self.push_expected_words("a whole number up to 4,294,967,295")
         } else {
-            self.put_expected("a whole number from the start up to 4,294,967,295")
+            self.push_expected_words("a whole number from the start up to 4,294,967,295")
         }
     }
 }
 
 /// A number in backquotes.
-fn quoted_number(alloc: Global, number: u64) -> Result<Vec<u8>, AllocError>
+fn backquoted_number(alloc: Global, number: u64) -> Result<Vec<u8>, AllocError>
     ensures { IfOk result (λ words. words.items ≡ (codes "`" ++ decimal number) ++ codes "`") }
 {
     let mut buffer = Buffer::new();

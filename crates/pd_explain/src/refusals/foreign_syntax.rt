@@ -1,6 +1,6 @@
 //! Syntax that people write in scripts and the grammar doesn't have, named.
 ghost use Rattle.std.specs.Prelude.{◌≡◌};
-ghost use Rattle.pd_explain.specs.ForeignSyntax.{foreign_syntax_of, foreign_syntax_at};
+ghost use Rattle.pd_explain.specs.ForeignSyntax.{foreign_syntax_of_octet_after, foreign_syntax_at};
 
 /// Syntax where no script goes on, which has a meaning elsewhere.
 #[derive(Clone, Copy)]
@@ -25,7 +25,7 @@ impl ForeignSyntax {
         match octets {
             [] => None,
             [0xef, 0xbb, 0xbf, ..] => Some(ForeignSyntax::ByteOrderMark),
-            [octet, ..] => foreign_syntax_of(after, *octet),
+            [octet, ..] => foreign_syntax_of_octet_after(after, *octet),
         }
     }
 
@@ -41,8 +41,8 @@ impl ForeignSyntax {
     }
 }
 
-fn foreign_syntax_of(after: u8, octet: u8) -> Option<ForeignSyntax>
-    ensures { result ≡ foreign_syntax_of after octet }
+fn foreign_syntax_of_octet_after(after: u8, octet: u8) -> Option<ForeignSyntax>
+    ensures { result ≡ foreign_syntax_of_octet_after after octet }
 {
     if octet == b'#' {
         Some(ForeignSyntax::Hash)

@@ -1,6 +1,6 @@
 //! The rest of a refused text from its last event on, up to the refused line.
 ghost use Rattle.std.specs.Prelude.{◌≡◌};
-ghost use Rattle.pd_explain.specs.MarkedPlace.{place_marked};
+ghost use Rattle.pd_explain.specs.MarkedPlace.{mark_before_if_event_incomplete};
 
 use crate::escape::clamped_part;
 use crate::refusals::blanks::column_of_bad_token;
@@ -61,7 +61,10 @@ pub struct LastEvent {
 
 /// How many events of a text are followed by another one, and where the next event begins; the last that a script may have
 /// isn't counted.
-fn count_events_before_last(alloc: Global, lines: &Lines) -> Result<(usize, Place), AllocError> {
+fn count_events_before_last_and_its_place(
+    alloc: Global,
+    lines: &Lines,
+) -> Result<(usize, Place), AllocError> {
     let mut place = read_header(alloc, lines)?.end();
     for events in 0..MAX_EVENTS - 1 {
         match event_end_and_has_next(alloc, lines, place)? {
@@ -73,7 +76,7 @@ fn count_events_before_last(alloc: Global, lines: &Lines) -> Result<(usize, Plac
 }
 
 /// How many events make the same difference as these: whether there is one, and whether only one more may follow.
-fn equivalent_event_count(events: usize) -> usize {
+fn least_equivalent_event_count(events: usize) -> usize {
     if events == MAX_EVENTS - 1 {
         events
     } else {
@@ -82,7 +85,7 @@ fn equivalent_event_count(events: usize) -> usize {
 }
 
 /// A token's octets; a string, a command and code are empty.
-fn placeholder_token_octets<'a>(token: &Token<'a>) -> &'a [u8] {
+fn token_octets_with_emptied_literals<'a>(token: &Token<'a>) -> &'a [u8] {
     match token.kind {
         TokenKind::Str => b"\"\"",
         TokenKind::Cmd => b"``",
@@ -102,8 +105,13 @@ fn can_begin_event(token: &Token<'_>) -> bool {
 
 /// Where a refused token is marked, by where the token before it ends: there, where the next event begins in a later line and
 /// what is before it is no whole script; else at itself.
-fn place_marked(refused: Place, before: Place, can_begin_event: bool, is_whole: bool) -> Place
-    ensures { result ≡ place_marked refused before can_begin_event is_whole }
+fn mark_before_if_event_incomplete(
+    refused: Place,
+    before: Place,
+    can_begin_event: bool,
+    is_whole: bool,
+) -> Place
+    ensures { result ≡ mark_before_if_event_incomplete refused before can_begin_event is_whole }
 {
     if can_begin_event && !is_whole && before.line < refused.line {
         before
@@ -118,14 +126,14 @@ impl LastEvent {
     /// # Errors
     /// `AllocError` where a growth is refused.
     pub fn read(alloc: Global, lines: &Lines, line: usize) -> Result<LastEvent, AllocError> {
-        let (events, place) = count_events_before_last(alloc, lines)?;
+        let (events, place) = count_events_before_last_and_its_place(alloc, lines)?;
         let mut last_event = LastEvent {
             octets: Vec::new(alloc),
             opening: 0,
             tokens: Vec::new(alloc),
             after: place,
         };
-        for _ in 0..equivalent_event_count(events) {
+        for _ in 0..least_equivalent_event_count(events) {
             last_event.octets.extend_from_slice(SOME_EVENT)?;
         }
         last_event.opening = last_event.octets.len();
@@ -143,7 +151,7 @@ impl LastEvent {
             self.octets.push(b' ')?;
         }
         self.octets
-            .extend_from_slice(placeholder_token_octets(token))?;
+            .extend_from_slice(token_octets_with_emptied_literals(token))?;
         let number = match token.kind {
             TokenKind::Int => Some(token.number),
             _ => None,
@@ -162,7 +170,7 @@ impl LastEvent {
     }
 
     /// The octets of its first tokens, so many, with the events before them.
-    pub fn octets_of_first_tokens(&self, count: usize) -> &[u8] {
+    pub fn prior_events_and_first_tokens(&self, count: usize) -> &[u8] {
         let end = match count.checked_sub(1) {
             Some(last) => match self.tokens.get(last) {
                 Some(piece) => piece.end,
@@ -182,7 +190,7 @@ impl LastEvent {
         let mut high = self.tokens.len();
         'halves: while low < high {
             let middle = low + (high - low) / 2;
-            if begins_no_script(alloc, self.octets_of_first_tokens(middle + 1))? {
+            if begins_no_script(alloc, self.prior_events_and_first_tokens(middle + 1))? {
                 high = middle;
             } else {
                 low = middle + 1;
@@ -221,8 +229,13 @@ impl LastEvent {
         let Some(piece) = self.tokens.get(accepted) else {
             return Ok(refused);
         };
-        let is_whole = is_script(alloc, self.octets_of_first_tokens(accepted))?;
-        Ok(Some(place_marked(piece.from, before.to, piece.can_begin_event, is_whole)))
+        let is_whole = is_script(alloc, self.prior_events_and_first_tokens(accepted))?;
+        Ok(Some(mark_before_if_event_incomplete(
+            piece.from,
+            before.to,
+            piece.can_begin_event,
+            is_whole,
+        )))
     }
 
     /// The token before the one that is refused.

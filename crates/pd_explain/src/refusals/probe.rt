@@ -15,7 +15,7 @@ pub fn script_goes_on_with(
     before: &[u8],
     candidate: &[u8],
 ) -> Result<bool, AllocError> {
-    match fault_line_of_trial(alloc, before, candidate)? {
+    match fault_line_of_text_with_candidate(alloc, before, candidate)? {
         Some(line) => Ok(line > TRIED),
         None => Ok(true),
     }
@@ -26,7 +26,7 @@ pub fn script_goes_on_with(
 /// # Errors
 /// `AllocError` where a growth is refused.
 pub fn is_script(alloc: Global, octets: &[u8]) -> Result<bool, AllocError> {
-    Ok(fault_line_of_trial(alloc, octets, b"")?.is_none())
+    Ok(fault_line_of_text_with_candidate(alloc, octets, b"")?.is_none())
 }
 
 /// Whether no script begins with these octets.
@@ -34,7 +34,7 @@ pub fn is_script(alloc: Global, octets: &[u8]) -> Result<bool, AllocError> {
 /// # Errors
 /// `AllocError` where a growth is refused.
 pub fn begins_no_script(alloc: Global, octets: &[u8]) -> Result<bool, AllocError> {
-    match fault_line_of_trial(alloc, octets, b"")? {
+    match fault_line_of_text_with_candidate(alloc, octets, b"")? {
         Some(line) => Ok(line < TRIED),
         None => Ok(false),
     }
@@ -42,15 +42,15 @@ pub fn begins_no_script(alloc: Global, octets: &[u8]) -> Result<bool, AllocError
 
 /// The fault of a text of three lines: these octets, a candidate, and nothing, so that the end of the text is on a line of
 /// its own. A text that has no room for them is refused at the candidate. None of those that are tried has a newline.
-fn fault_line_of_trial(
+fn fault_line_of_text_with_candidate(
     alloc: Global,
     before: &[u8],
     candidate: &[u8],
 ) -> Result<Option<usize>, AllocError> {
     let mut list = LineList::new(alloc);
-    list.push_if_line(before)?;
-    list.push_if_line(candidate)?;
-    list.push_if_line(b"")?;
+    list.push_unless_newline_inside(before)?;
+    list.push_unless_newline_inside(candidate)?;
+    list.push_unless_newline_inside(b"")?;
     match Lines::new(list) {
         Ok(lines) => Ok(parse(alloc, &lines)?.fault),
         Err(_) => Ok(Some(TRIED)),

@@ -1,5 +1,5 @@
 //! The text of blocks on a segment that a check dropped.
-use crate::causes::sentences::{Phrase, put_phrases};
+use crate::causes::sentences::{Phrase, put_concatenated_phrases};
 use crate::dropped::DroppedSegment;
 use Phrase::{Number, Words};
 use pd_host::SegmentCheck;
@@ -12,7 +12,7 @@ use std::alloc::{AllocError, Global};
 pub fn dropped_text(alloc: Global, dropped: DroppedSegment) -> Result<Vec<u8>, AllocError> {
     let mut text = Vec::new(alloc);
     let words = failed_check_words(dropped.failed_check);
-    put_phrases(
+    put_concatenated_phrases(
         &mut text,
         &[
             Words("line "),

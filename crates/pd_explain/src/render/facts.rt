@@ -4,7 +4,7 @@ ghost use Rattle.pd_explain.specs.States.{state_word};
 
 use crate::causes::{
     Cause, ExpectedTime, Failed, Failure, MissingPacket, Outlook, SenderSnapshot, TimeBackwards,
-    WrongPacket, WrongResult, applied_rto_bound, capped_computed_us,
+    WrongPacket, WrongResult, applied_rto_bound, computed_rto_us_capped_at_u64,
 };
 use crate::origins::Origin;
 use crate::rules::Rule;
@@ -73,7 +73,11 @@ pub fn facts_of_cause<'a>(alloc: Global, cause: &'a Cause) -> Result<Facts<'a>, 
 
 fn put_failed_facts<'a>(facts: &mut Facts<'a>, failure: &'a Failure) -> Result<(), AllocError> {
     match &failure.failed {
-        Failed::Packet(packets) => put_wrong_packet(facts, packets, failure.compared_origin()),
+        Failed::Packet(packets) => put_wrong_packet(
+            facts,
+            packets,
+            failure.origin_of_compared_packet_if_any(),
+        ),
         Failed::Missing(missing_packet) => put_missing_packet(facts, missing_packet),
         Failed::Result(wrong_result) => put_wrong_result(facts, wrong_result),
         Failed::Backwards(time_backwards) => put_time_backwards(facts, time_backwards),
@@ -108,23 +112,23 @@ fn put_wrong_packet<'a>(
     }
     match packets.expected_time {
         None => Ok(()),
-        Some(expected_time) => put_earliness(facts, expected_time, packets.at),
+        Some(expected_time) => put_expected_time_and_earliness(facts, expected_time, packets.at),
     }
 }
 
 /// Adds when a packet was awaited, and how long before that it was sent. None is sent too late: the clock is never further past
 /// the base than the tolerance, and no expiry is performed that comes later than the event's last moment and the tolerance.
-fn put_earliness<'a>(
+fn put_expected_time_and_earliness<'a>(
     facts: &mut Facts<'a>,
     expected_time: ExpectedTime,
     at: u64,
 ) -> Result<(), AllocError> {
-    put_expected_time(facts, expected_time)?;
+    put_expected_time_range_facts(facts, expected_time)?;
     let early = expected_time.first.saturating_sub(at);
     facts.extend_from_slice(&[named_fact("early by", "early_us", Moment(early))])
 }
 
-fn put_expected_time<'a>(
+fn put_expected_time_range_facts<'a>(
     facts: &mut Facts<'a>,
     expected_time: ExpectedTime,
 ) -> Result<(), AllocError> {
@@ -158,7 +162,7 @@ fn put_missing_packet<'a>(
             "awaited_until_us",
             Nothing("any time"),
         )])?,
-        Some(expected_time) => put_expected_time(facts, expected_time)?,
+        Some(expected_time) => put_expected_time_range_facts(facts, expected_time)?,
     }
     facts.extend_from_slice(&[named_fact(
         "timer expires",
@@ -170,7 +174,7 @@ fn put_missing_packet<'a>(
         named_fact("reason", "reason_words", Octets(&missing_packet.words)),
         named_fact("", "reason", Words(missing_packet.reason.key())),
     ])?;
-    put_dup_ack_status(facts, &missing_packet.outlook)?;
+    put_dup_ack_effect_on_recovery(facts, &missing_packet.outlook)?;
     put_sacked(facts, &missing_packet.outlook)
 }
 
@@ -183,17 +187,24 @@ fn put_rto_estimate<'a>(facts: &mut Facts<'a>, outlook: &'a Outlook) -> Result<(
                 named_fact("RTO", "rto_words", Octets(words)),
                 named_fact("", "srtt_us", Moment(timeout.estimate.srtt)),
                 named_fact("", "rttvar_us", Moment(timeout.estimate.rttvar)),
-                named_fact("", "computed_rto_us", Moment(capped_computed_us(timeout))),
+                named_fact(
+                    "",
+                    "computed_rto_us",
+                    Moment(computed_rto_us_capped_at_u64(timeout)),
+                ),
                 named_fact("", "bounded_rto_us", Moment(timeout.bounded_us)),
             ])?;
-            put_rto_settings(facts, timeout)
+            put_granularity_and_rto_bound(facts, timeout)
         }
         _ => Ok(()),
     }
 }
 
 /// Adds the settings that move RTO.
-fn put_rto_settings<'a>(facts: &mut Facts<'a>, timeout: Timeout) -> Result<(), AllocError> {
+fn put_granularity_and_rto_bound<'a>(
+    facts: &mut Facts<'a>,
+    timeout: Timeout,
+) -> Result<(), AllocError> {
     if let Some(granularity_us) = timeout.granularity_us {
         facts.extend_from_slice(&[named_fact("", "granularity_us", Moment(granularity_us))])?;
     }
@@ -204,7 +215,10 @@ fn put_rto_settings<'a>(facts: &mut Facts<'a>, timeout: Timeout) -> Result<(), A
 }
 
 /// Adds the effect of a duplicate, where that is reported.
-fn put_dup_ack_status<'a>(facts: &mut Facts<'a>, outlook: &'a Outlook) -> Result<(), AllocError> {
+fn put_dup_ack_effect_on_recovery<'a>(
+    facts: &mut Facts<'a>,
+    outlook: &'a Outlook,
+) -> Result<(), AllocError> {
     let words = &outlook.duplicates_words;
     match outlook.dup_ack_effect {
         Some(dup_ack_effect) if !words.is_empty() => {
@@ -300,11 +314,14 @@ pub fn facts_of_sender<'a>(
     sender: &SenderSnapshot,
 ) -> Result<Facts<'a>, AllocError> {
     let mut facts = Vec::new(alloc);
-    put_sender(&mut facts, sender)?;
+    put_sender_facts_without_state(&mut facts, sender)?;
     Ok(facts)
 }
 
-fn put_sender<'a>(facts: &mut Facts<'a>, sender: &SenderSnapshot) -> Result<(), AllocError> {
+fn put_sender_facts_without_state<'a>(
+    facts: &mut Facts<'a>,
+    sender: &SenderSnapshot,
+) -> Result<(), AllocError> {
     let Some(connection_snapshot) = sender.connection_snapshot else {
         return facts.extend_from_slice(&[named_fact("connection", "connection", Words("none"))]);
     };
@@ -315,9 +332,9 @@ fn put_sender<'a>(facts: &mut Facts<'a>, sender: &SenderSnapshot) -> Result<(), 
     match connection_snapshot.windows {
         None => put_rto_and_expiry(facts, connection_snapshot, sender.expiry),
         Some(windows) => {
-            put_recovery_counts(facts, windows)?;
+            put_pipe_prr_and_dup_ack_counts(facts, windows)?;
             put_rto_and_expiry(facts, connection_snapshot, sender.expiry)?;
-            let recovery = Words(recovery_name(windows.recovery));
+            let recovery = Words(recovery_rfc_name(windows.recovery));
             facts.extend_from_slice(&[named_fact("recovery", "recovery", recovery)])
         }
     }
@@ -348,7 +365,7 @@ fn put_sequence_and_windows<'a>(
 }
 
 /// Adds what recovery counts.
-fn put_recovery_counts<'a>(
+fn put_pipe_prr_and_dup_ack_counts<'a>(
     facts: &mut Facts<'a>,
     windows: WindowSnapshot,
 ) -> Result<(), AllocError> {
@@ -375,7 +392,7 @@ fn put_rto_and_expiry<'a>(
     ])
 }
 
-fn recovery_name(recovery: Recovery) -> &'static str {
+fn recovery_rfc_name(recovery: Recovery) -> &'static str {
     match recovery {
         Recovery::Idle => "none",
         Recovery::WithSack(_) => "RFC6675",

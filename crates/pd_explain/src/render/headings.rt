@@ -46,8 +46,11 @@ fn kind_words(kind: Kind) -> &'static str {
 ///
 /// # Errors
 /// `AllocError` where a growth is refused.
-pub fn heading_words(alloc: Global, explanation: &Explanation) -> Result<Vec<u8>, AllocError> {
-    let count = unexpected_count_in(&explanation.cause);
+pub fn verdict_or_unexpected_packets_words(
+    alloc: Global,
+    explanation: &Explanation,
+) -> Result<Vec<u8>, AllocError> {
+    let count = unexpected_count_or_zero(&explanation.cause);
     let mut words = Vec::new(alloc);
     if count == 0 {
         words.extend_from_slice(verdict_words(explanation.verdict).as_bytes())?;
@@ -64,7 +67,7 @@ pub fn heading_words(alloc: Global, explanation: &Explanation) -> Result<Vec<u8>
 }
 
 /// How many packets before the awaited one no line asks for.
-fn unexpected_count_in(cause: &Cause) -> usize {
+fn unexpected_count_or_zero(cause: &Cause) -> usize {
     match cause {
         Cause::Failed(failure) => match &failure.failed {
             Failed::Packet(packets) => packets.unexpected,

@@ -10,7 +10,7 @@ use crate::render::dropped_text::{failed_check_key, failed_check_words};
 use crate::render::facts::{
     Fact, FactValue, facts_of_cause, facts_of_sender, named_fact, state_name,
 };
-use crate::render::headings::{heading_words, leftovers_words, verdict_name};
+use crate::render::headings::{leftovers_words, verdict_name, verdict_or_unexpected_packets_words};
 use crate::rule_violation::RuleViolation;
 use pd_run::Verdict;
 use pd_text::Name;
@@ -65,7 +65,7 @@ fn put_leftovers(
             named_fact("", "verdict", FactValue::Words("pass")),
         ],
     )?;
-    put_heading_words(alloc, object, &leftovers_words(alloc, leftovers)?)?;
+    put_words_as_what_member(alloc, object, &leftovers_words(alloc, leftovers)?)?;
     put(
         object,
         alloc,
@@ -82,7 +82,11 @@ fn put_leftovers(
 }
 
 /// Adds the first words.
-fn put_heading_words(alloc: Global, object: &mut Members, words: &[u8]) -> Result<(), AllocError> {
+fn put_words_as_what_member(
+    alloc: Global,
+    object: &mut Members,
+    words: &[u8],
+) -> Result<(), AllocError> {
     put(object, alloc, "what", string_value(alloc, words)?)
 }
 
@@ -110,7 +114,11 @@ fn put_heading(
             named_fact("", "verdict", FactValue::Words(verdict_name(verdict))),
         ],
     )?;
-    put_heading_words(alloc, object, &heading_words(alloc, explanation)?)?;
+    put_words_as_what_member(
+        alloc,
+        object,
+        &verdict_or_unexpected_packets_words(alloc, explanation)?,
+    )?;
     match verdict {
         Verdict::Fail(_, kind) => put_facts(
             alloc,
@@ -129,9 +137,14 @@ fn put_cause(alloc: Global, object: &mut Members, cause: &Cause) -> Result<(), A
         Cause::Rule(violation) => put_violation(alloc, object, violation),
         Cause::Failed(failure) => {
             put_sacked(alloc, object, &failure.failed)?;
-            put_dropped(alloc, object, &failure.dropped)?;
-            if let Some(origin) = failure.compared_origin() {
-                put(object, alloc, "sent_by", origin_value(alloc, origin)?)?;
+            put_dropped_segments(alloc, object, &failure.dropped)?;
+            if let Some(origin) = failure.origin_of_compared_packet_if_any() {
+                put(
+                    object,
+                    alloc,
+                    "sent_by",
+                    origin_as_json_object(alloc, origin)?,
+                )?;
             }
             put_unmatched_and_sender(
                 alloc,
@@ -161,7 +174,7 @@ fn put_sacked(alloc: Global, object: &mut Members, failed: &Failed) -> Result<()
 }
 
 /// Adds the segments that were dropped as a list, where some were.
-fn put_dropped(
+fn put_dropped_segments(
     alloc: Global,
     object: &mut Members,
     dropped: &[DroppedSegment],
@@ -230,7 +243,7 @@ fn string_value(alloc: Global, text: &[u8]) -> Result<Value, AllocError> {
 }
 
 /// The origin of a packet, as an object.
-fn origin_value(alloc: Global, origin: Origin) -> Result<Value, AllocError> {
+fn origin_as_json_object(alloc: Global, origin: Origin) -> Result<Value, AllocError> {
     let fact = match origin {
         Origin::Line(line) => named_fact("", "line", FactValue::Number(line as u64)),
         Origin::Timer(moment) => named_fact("", "timer_us", FactValue::Moment(moment)),
@@ -244,7 +257,7 @@ fn origin_value(alloc: Global, origin: Origin) -> Result<Value, AllocError> {
 fn origin_values(alloc: Global, origins: &[Origin], count: usize) -> Result<Value, AllocError> {
     let mut list = Vec::new(alloc);
     for origin in origins.iter().take(count) {
-        list.push(origin_value(alloc, *origin)?)?;
+        list.push(origin_as_json_object(alloc, *origin)?)?;
     }
     Ok(Value::Array(list))
 }
@@ -312,8 +325,18 @@ fn put_violation(
             escaped_list_value(alloc, &violation.alternatives)?,
         )?;
     }
-    put_words_if_some(alloc, object, "found", violation.rule.found_in_words())?;
-    put_words_if_some(alloc, object, "mend", violation.rule.mend_in_words())
+    put_words_if_some(
+        alloc,
+        object,
+        "found",
+        violation.rule.flag_meanings_text_if_flag_rule(),
+    )?;
+    put_words_if_some(
+        alloc,
+        object,
+        "mend",
+        violation.rule.import_advice_if_header_rule(),
+    )
 }
 
 /// Adds words under a key, where there are any.
@@ -349,7 +372,7 @@ fn put_refusal(alloc: Global, object: &mut Members, refusal: &Refusal) -> Result
             named_fact("", "column", column),
         ],
     )?;
-    put_words_if_some(alloc, object, "found", refusal.found_in_words())?;
+    put_words_if_some(alloc, object, "found", refusal.foreign_syntax_in_words())?;
     put(
         object,
         alloc,

@@ -6,7 +6,7 @@ ghost use Rattle.pd_explain.specs.Inner.{AddsLines};
 
 use crate::causes::{Cause, Failed, Failure, SenderSnapshot, Unmatched, WrongPacket};
 use crate::dropped::DroppedSegment;
-use crate::escape::{escaped, truncated, truncated_around};
+use crate::escape::{escaped, truncated, truncated_around_mark_and_new_column};
 use crate::explain_verdict::Explanation;
 use crate::laws::law_escaped_is_printable;
 use crate::leftovers::Leftovers;
@@ -14,9 +14,9 @@ use crate::origins::Origin;
 use crate::refusals::Refusal;
 use crate::render::dropped_text::dropped_text;
 use crate::render::facts::{Fact, FactValue, facts_of_cause, facts_of_sender, state_name};
-use crate::render::headings::{heading_words, leftovers_words, verdict_name};
+use crate::render::headings::{leftovers_words, verdict_name, verdict_or_unexpected_packets_words};
 use crate::rule_violation::RuleViolation;
-use pd_print::write_fixed_seconds;
+use pd_print::render_seconds_with_six_decimals;
 use pd_run::Verdict;
 use pd_text::Name;
 use std::alloc::{AllocError, Global};
@@ -53,13 +53,13 @@ pub fn leftovers_text(
 {
     let mut block = leftovers_heading(alloc, name, leftovers)?;
     block.extend_from_slice(b"\n")?;
-    block.extend_from_slice(&leftovers_lines(alloc, leftovers)?)?;
+    block.extend_from_slice(&unmatched_and_sender_lines(alloc, leftovers)?)?;
     Ok(block)
 }
 
 /// The lines of such a block below its first one.
 #[tactic(auto, using(crate::proofs::BlockLemmas::all_added))]
-fn leftovers_lines(alloc: Global, leftovers: &Leftovers) -> Result<Vec<u8>, AllocError>
+fn unmatched_and_sender_lines(alloc: Global, leftovers: &Leftovers) -> Result<Vec<u8>, AllocError>
     ensures { IfOk result (λ lines. AreIndented lines.items) }
 {
     let mut out = Vec::new(alloc);
@@ -96,13 +96,13 @@ fn explanation_heading(
 {
     law_escaped_is_printable();
     let mut line = Vec::from_slice(alloc, name.as_slice())?;
-    put_verdict(alloc, &mut line, explanation)?;
-    line.extend_from_slice(&heading_words(alloc, explanation)?)?;
+    put_line_number_and_verdict(alloc, &mut line, explanation)?;
+    line.extend_from_slice(&verdict_or_unexpected_packets_words(alloc, explanation)?)?;
     escaped(alloc, &line)
 }
 
 /// Adds a line's number and a verdict, each after a colon, and the colon before its words.
-fn put_verdict(
+fn put_line_number_and_verdict(
     alloc: Global,
     out: &mut Vec<u8>,
     explanation: &Explanation,
@@ -146,7 +146,7 @@ fn put_cause(alloc: Global, out: &mut Vec<u8>, cause: &Cause) -> Result<(), Allo
         Cause::Syntax(refusal) => put_refusal(alloc, out, refusal),
         Cause::Rule(violation) => put_violation(alloc, out, violation),
         Cause::Failed(failure) => {
-            put_dropped(alloc, out, &failure.dropped)?;
+            put_dropped_segments(alloc, out, &failure.dropped)?;
             put_unmatched_and_sender(
                 alloc,
                 out,
@@ -160,7 +160,7 @@ fn put_cause(alloc: Global, out: &mut Vec<u8>, cause: &Cause) -> Result<(), Allo
 
 /// Adds the segments that were dropped.
 #[tactic(auto, using(crate::proofs::BlockLemmas::no_lines, crate::proofs::BlockLemmas::then_lines))]
-fn put_dropped(
+fn put_dropped_segments(
     alloc: Global,
     out: &mut Vec<u8>,
     dropped: &[DroppedSegment],
@@ -186,14 +186,14 @@ fn put_insert_suggestions(alloc: Global, out: &mut Vec<u8>, cause: &Cause) -> Re
                 unmatched,
                 ..
             },
-        ) => put_unexpected(alloc, out, packets, unmatched),
+        ) => put_mend_by_inserting_lines(alloc, out, packets, unmatched),
         _ => Ok(()),
     }
 }
 
 /// The same of a packet that differs: it is the first of them, and other unmatched ones follow it.
 #[tactic(auto, using(crate::proofs::BlockLemmas::no_lines, crate::proofs::BlockLemmas::then_lines))]
-fn put_unexpected(
+fn put_mend_by_inserting_lines(
     alloc: Global,
     out: &mut Vec<u8>,
     packets: &WrongPacket,
@@ -229,7 +229,11 @@ fn put_number(alloc: Global, out: &mut Vec<u8>, number: u64) -> Result<(), Alloc
 }
 
 /// Adds a line as it is shown, indented and cut.
-fn put_truncated_line(alloc: Global, out: &mut Vec<u8>, line: &[u8]) -> Result<(), AllocError>
+fn put_truncated_report_line(
+    alloc: Global,
+    out: &mut Vec<u8>,
+    line: &[u8],
+) -> Result<(), AllocError>
     ensures { OnOk result (AddsLines out.old.items out.new.items) }
 {
     law_escaped_is_printable();
@@ -238,7 +242,7 @@ fn put_truncated_line(alloc: Global, out: &mut Vec<u8>, line: &[u8]) -> Result<(
 }
 
 /// Adds a line as it is shown, indented and not cut.
-fn put_whole_line(alloc: Global, out: &mut Vec<u8>, line: &[u8]) -> Result<(), AllocError>
+fn put_whole_report_line(alloc: Global, out: &mut Vec<u8>, line: &[u8]) -> Result<(), AllocError>
     ensures { OnOk result (AddsLines out.old.items out.new.items) }
 {
     law_escaped_is_printable();
@@ -283,7 +287,7 @@ fn put_fact(
     put_words(&mut line, label)?;
     put_words(&mut line, ": ")?;
     put_value(alloc, &mut line, value)?;
-    put_truncated_line(alloc, out, &line)
+    put_truncated_report_line(alloc, out, &line)
 }
 
 /// Adds what is reported; octets as they are.
@@ -294,16 +298,22 @@ fn put_value(alloc: Global, out: &mut Vec<u8>, value: FactValue<'_>) -> Result<(
         ),
         FactValue::Packet(octets, Some(origin)) => {
             out.extend_from_slice(octets)?;
-            put_origin(alloc, out, origin)
+            put_sent_by_line_or_timer(alloc, out, origin)
         }
         FactValue::Words(words) | FactValue::Nothing(words) => put_words(out, words),
-        FactValue::Moment(moment) => out.extend_from_slice(&write_fixed_seconds(alloc, moment)?),
+        FactValue::Moment(moment) => out.extend_from_slice(&render_seconds_with_six_decimals(
+            alloc, moment,
+        )?),
         FactValue::Number(number) => put_number(alloc, out, number),
     }
 }
 
 /// Adds to a packet, which ends in a comment, what let it go.
-fn put_origin(alloc: Global, out: &mut Vec<u8>, origin: Origin) -> Result<(), AllocError> {
+fn put_sent_by_line_or_timer(
+    alloc: Global,
+    out: &mut Vec<u8>,
+    origin: Origin,
+) -> Result<(), AllocError> {
     match origin {
         Origin::Timer(_) => put_words(out, ", sent by the timer"),
         Origin::Line(line) => {
@@ -325,7 +335,7 @@ fn put_unmatched_and_sender(
     ensures { OnOk result (AddsLines out.old.items out.new.items) }
 {
     put_unmatched(alloc, out, unmatched, origins)?;
-    put_sender_line(alloc, out, sender)
+    put_sender_state_line(alloc, out, sender)
 }
 
 /// Adds the packets that were put out and not taken, each with what let it go.
@@ -361,7 +371,7 @@ fn has_prr_counts(sender: &SenderSnapshot) -> bool {
 }
 
 /// Adds how the sender stands, in one line, which isn't cut where it has PRR's counts too.
-fn put_sender_line(
+fn put_sender_state_line(
     alloc: Global,
     out: &mut Vec<u8>,
     sender: &SenderSnapshot,
@@ -370,11 +380,11 @@ fn put_sender_line(
 {
     let mut line = Vec::new(alloc);
     put_words(&mut line, "state: ")?;
-    put_sender_state(alloc, &mut line, sender)?;
+    put_sender_state_and_facts(alloc, &mut line, sender)?;
     if has_prr_counts(sender) {
-        return put_whole_line(alloc, out, &line);
+        return put_whole_report_line(alloc, out, &line);
     }
-    put_truncated_line(alloc, out, &line)
+    put_truncated_report_line(alloc, out, &line)
 }
 
 /// How a sender stands: the name of its state, and its numbers, each after its name and a colon, with a blank before each.
@@ -383,11 +393,11 @@ fn put_sender_line(
 /// `AllocError` where a growth is refused.
 pub fn write_sender(alloc: Global, sender: &SenderSnapshot) -> Result<Vec<u8>, AllocError> {
     let mut out = Vec::new(alloc);
-    put_sender_state(alloc, &mut out, sender)?;
+    put_sender_state_and_facts(alloc, &mut out, sender)?;
     Ok(out)
 }
 
-fn put_sender_state(
+fn put_sender_state_and_facts(
     alloc: Global,
     out: &mut Vec<u8>,
     sender: &SenderSnapshot,
@@ -416,9 +426,19 @@ fn put_violation(
     ensures { OnOk result (AddsLines out.old.items out.new.items) }
 {
     put_line_with_mark(alloc, out, &violation.part.text, violation.part.column)?;
-    put_words_if_some(alloc, out, "found", violation.rule.found_in_words())?;
+    put_words_if_some(
+        alloc,
+        out,
+        "found",
+        violation.rule.flag_meanings_text_if_flag_rule(),
+    )?;
     put_alternatives(alloc, out, &violation.alternatives)?;
-    put_words_if_some(alloc, out, "mend", violation.rule.mend_in_words())
+    put_words_if_some(
+        alloc,
+        out,
+        "mend",
+        violation.rule.import_advice_if_header_rule(),
+    )
 }
 
 /// Adds the calls or flags that are run, where they are reported.
@@ -461,7 +481,7 @@ fn put_refusal(alloc: Global, out: &mut Vec<u8>, refusal: &Refusal) -> Result<()
         Some(mark) => put_line_with_mark(alloc, out, &refusal.text, mark)?,
         None => put_refused_end_of_text(alloc, out, &refusal.text)?,
     }
-    put_words_if_some(alloc, out, "found", refusal.found_in_words())?;
+    put_words_if_some(alloc, out, "found", refusal.foreign_syntax_in_words())?;
     put_labeled_list(alloc, out, "expected:", &refusal.expected)
 }
 
@@ -470,8 +490,8 @@ fn put_refusal(alloc: Global, out: &mut Vec<u8>, refusal: &Refusal) -> Result<()
 fn put_refused_end_of_text(alloc: Global, out: &mut Vec<u8>, text: &[u8]) -> Result<(), AllocError>
     ensures { OnOk result (AddsLines out.old.items out.new.items) }
 {
-    put_truncated_line(alloc, out, text)?;
-    put_truncated_line(alloc, out, b"at the end of the text")
+    put_truncated_report_line(alloc, out, text)?;
+    put_truncated_report_line(alloc, out, b"at the end of the text")
 }
 
 /// Adds a line, and one that marks a column of it.
@@ -484,8 +504,8 @@ fn put_line_with_mark(
 ) -> Result<(), AllocError>
     ensures { OnOk result (AddsLines out.old.items out.new.items) }
 {
-    let (line, column) = truncated_around(alloc, text, column)?;
-    put_truncated_line(alloc, out, &line)?;
+    let (line, column) = truncated_around_mark_and_new_column(alloc, text, column)?;
+    put_truncated_report_line(alloc, out, &line)?;
     put_mark_line(alloc, out, column)
 }
 
@@ -496,7 +516,7 @@ fn put_mark_line(alloc: Global, out: &mut Vec<u8>, column: usize) -> Result<(), 
     let mut line = Vec::new(alloc);
     line.resize(column, b' ')?;
     line.push(b'^')?;
-    put_truncated_line(alloc, out, &line)
+    put_truncated_report_line(alloc, out, &line)
 }
 
 /// Adds words after a label, as a list in a sentence.
@@ -514,7 +534,7 @@ fn put_labeled_list(
         put_words(&mut line, list_separator(place, items.len()))?;
         line.extend_from_slice(words)?;
     }
-    put_truncated_line(alloc, out, &line)
+    put_truncated_report_line(alloc, out, &line)
 }
 
 /// The text before an item of a list of so many.

@@ -1,7 +1,7 @@
 //! The numbers of an event that have limits.
 ghost use Rattle.std.specs.Prelude.{◌≡◌};
 ghost use Rattle.std.specs.List.{list_any};
-ghost use Rattle.pd_run.specs.Limits.{is_long, written_times, written_blocking_end, is_action_over, is_block_over};
+ghost use Rattle.pd_run.specs.Limits.{is_long, written_times, written_blocking_end, is_action_number_over_limit, is_block_over};
 ghost use Rattle.pd_explain.specs.Rules.{limit_of, where_so, if_exceeded_by, if_exceeded_by_some, number_over_in_option, first_option_over, number_over_in_options, number_over_in_packet, number_over_in_action, first_number_over_limit};
 ghost use Rattle.pd_explain.specs.declared.rules.limited_numbers.LimitedNumber.TheVariants.{Edge};
 
@@ -169,7 +169,7 @@ fn number_over_in_action(action: &Action) -> Option<LimitedNumber>
 }
 
 fn is_write_count_over(call: &Call) -> bool
-    ensures { result ≡ is_action_over (Action.Call call.now) }
+    ensures { result ≡ is_action_number_over_limit (Action.Call call.now) }
 {
     match (call.function, call.arguments.as_slice().get(2)) {
         (Function::Write, Some(Argument::Int(count))) => *count > LimitedNumber::Write.limit(),
@@ -232,14 +232,14 @@ fn number_over_in_option(option: &PacketOption) -> Option<LimitedNumber>
 fn number_over_in_blocks(blocks: &[SackBlock]) -> Option<LimitedNumber>
     ensures { result ≡ where_so (list_any is_block_over blocks.now) Edge }
 {
-    if has_edge_over_limit(blocks) {
+    if has_sack_edge_over_31_bits(blocks) {
         Some(LimitedNumber::Edge)
     } else {
         None
     }
 }
 
-fn has_edge_over_limit(blocks: &[SackBlock]) -> bool
+fn has_sack_edge_over_31_bits(blocks: &[SackBlock]) -> bool
     ensures { result ≡ list_any is_block_over blocks.now }
 {
     let highest = LimitedNumber::Edge.limit();

@@ -5,7 +5,7 @@ ghost use Rattle.pd_host.specs.Connection.{ConnectionView};
 ghost use Rattle.pd_host.specs.ConnectionSnapshot.{connection_snapshot_in};
 ghost use Rattle.pd_host.specs.Handshake.{is_listening, is_syn_alone};
 ghost use Rattle.pd_run.specs.InboundSegment.{segment_in};
-ghost use Rattle.pd_explain.specs.Rules.{first_segment_rule, is_closed_by, connection_segment_rule, arrival_rule, unsupported_call_rule, input_rule};
+ghost use Rattle.pd_explain.specs.Rules.{unsupported_first_segment_rule, is_closed_by, why_connection_segment_is_unsupported, unsupported_arrival_rule, unsupported_call_rule, unsupported_input_of_halted_action};
 
 use pd_host::{ConnState, Host};
 use pd_script::{Action, Function, Packet, PacketFlags};
@@ -75,11 +75,11 @@ impl UnsupportedInput {
 }
 
 /// The first rule by which a sender that halts at an action doesn't run it.
-pub fn input_rule(action: &Action, host: &Host) -> Option<UnsupportedInput>
-    ensures { result ≡ input_rule action.now host.now.state }
+pub fn unsupported_input_of_halted_action(action: &Action, host: &Host) -> Option<UnsupportedInput>
+    ensures { result ≡ unsupported_input_of_halted_action action.now host.now.state }
 {
     match action {
-        Action::Inbound(packet) => Some(arrival_rule(packet, host)),
+        Action::Inbound(packet) => Some(unsupported_arrival_rule(packet, host)),
         Action::Call(call) => Some(unsupported_call_rule(call.function)),
         Action::Outbound(_) => None,
         Action::Command => None,
@@ -96,12 +96,12 @@ fn unsupported_call_rule(function: Function) -> UnsupportedInput
     }
 }
 
-fn arrival_rule(packet: &Packet, host: &Host) -> UnsupportedInput
-    ensures { result ≡ arrival_rule host.now.state (segment_in packet.now) }
+fn unsupported_arrival_rule(packet: &Packet, host: &Host) -> UnsupportedInput
+    ensures { result ≡ unsupported_arrival_rule host.now.state (segment_in packet.now) }
 {
     match host.connection_snapshot() {
-        None => first_segment_rule(packet, host),
-        Some(connection_snapshot) => connection_segment_rule(
+        None => unsupported_first_segment_rule(packet, host),
+        Some(connection_snapshot) => why_connection_segment_is_unsupported(
             packet,
             host.state().is_closed(),
             connection_snapshot.is_reset,
@@ -110,9 +110,9 @@ fn arrival_rule(packet: &Packet, host: &Host) -> UnsupportedInput
 }
 
 /// Of a first segment.
-fn first_segment_rule(packet: &Packet, host: &Host) -> UnsupportedInput
+fn unsupported_first_segment_rule(packet: &Packet, host: &Host) -> UnsupportedInput
     requires { connection_snapshot_in host.now.state ≡ None }
-    ensures { result ≡ first_segment_rule host.now.state.endpoint.listener (segment_in packet.now) }
+    ensures { result ≡ unsupported_first_segment_rule host.now.state.endpoint.listener (segment_in packet.now) }
 {
     if !is_listening(host) {
         UnsupportedInput::NotListening
@@ -137,8 +137,12 @@ fn is_syn_alone(flags: PacketFlags) -> bool
 }
 
 /// Of a segment on a connection, by whether it is closed, and by an RST.
-fn connection_segment_rule(packet: &Packet, is_closed: bool, is_reset: bool) -> UnsupportedInput
-    ensures { (c : ConnectionView) → is_closed ≡ is_closed_by c → is_reset ≡ c.is_reset → result ≡ connection_segment_rule c (segment_in packet.now) }
+fn why_connection_segment_is_unsupported(
+    packet: &Packet,
+    is_closed: bool,
+    is_reset: bool,
+) -> UnsupportedInput
+    ensures { (c : ConnectionView) → is_closed ≡ is_closed_by c → is_reset ≡ c.is_reset → result ≡ why_connection_segment_is_unsupported c (segment_in packet.now) }
 {
     if packet.end > packet.start {
         UnsupportedInput::Payload

@@ -1,7 +1,7 @@
 //! Shapes of events and header items that aren't run, wherever they are written.
 ghost use Rattle.std.specs.Prelude.{◌≡◌};
 ghost use Rattle.pd_run.specs.Times.{is_single_moment};
-ghost use Rattle.pd_explain.specs.Rules.{call_shape, packet_shape, action_shape, shape_rule};
+ghost use Rattle.pd_explain.specs.Rules.{find_unsupported_shape_of_call, find_unsupported_shape_by_packet_flags, find_unsupported_shape_of_action, find_unsupported_shape_of_event};
 
 use pd_host::is_shape_supported;
 use pd_script::{Action, Call, Event, Function, Packet, Time};
@@ -67,13 +67,13 @@ impl UnsupportedShape {
 }
 
 /// The first rule by which an event isn't run, whatever the sender's state.
-pub fn shape_rule(event: &Event) -> Option<UnsupportedShape>
-    ensures { result ≡ shape_rule event.now }
+pub fn find_unsupported_shape_of_event(event: &Event) -> Option<UnsupportedShape>
+    ensures { result ≡ find_unsupported_shape_of_event event.now }
 {
     if event.blocking_end.is_some() {
         return Some(UnsupportedShape::Blocking);
     }
-    action_shape(event.time, &event.action)
+    find_unsupported_shape_of_action(event.time, &event.action)
 }
 
 fn is_single_moment(time: Time) -> bool
@@ -82,21 +82,21 @@ fn is_single_moment(time: Time) -> bool
     matches!(time, Time::Absolute(_) | Time::Relative(_))
 }
 
-fn action_shape(time: Time, action: &Action) -> Option<UnsupportedShape>
-    ensures { result ≡ action_shape time action.now }
+fn find_unsupported_shape_of_action(time: Time, action: &Action) -> Option<UnsupportedShape>
+    ensures { result ≡ find_unsupported_shape_of_action time action.now }
 {
     match action {
         Action::Inbound(packet) => {
             if is_single_moment(time) {
-                packet_shape(packet)
+                find_unsupported_shape_by_packet_flags(packet)
             } else {
                 Some(UnsupportedShape::InboundTime)
             }
         }
-        Action::Outbound(packet) => packet_shape(packet),
+        Action::Outbound(packet) => find_unsupported_shape_by_packet_flags(packet),
         Action::Call(call) => {
             if is_single_moment(time) {
-                call_shape(call)
+                find_unsupported_shape_of_call(call)
             } else {
                 Some(UnsupportedShape::CallTime)
             }
@@ -106,8 +106,8 @@ fn action_shape(time: Time, action: &Action) -> Option<UnsupportedShape>
     }
 }
 
-fn packet_shape(packet: &Packet) -> Option<UnsupportedShape>
-    ensures { result ≡ packet_shape packet.now }
+fn find_unsupported_shape_by_packet_flags(packet: &Packet) -> Option<UnsupportedShape>
+    ensures { result ≡ find_unsupported_shape_by_packet_flags packet.now }
 {
     if packet.flags.other {
         Some(UnsupportedShape::Flag)
@@ -116,8 +116,8 @@ fn packet_shape(packet: &Packet) -> Option<UnsupportedShape>
     }
 }
 
-fn call_shape(call: &Call) -> Option<UnsupportedShape>
-    ensures { result ≡ call_shape call.now }
+fn find_unsupported_shape_of_call(call: &Call) -> Option<UnsupportedShape>
+    ensures { result ≡ find_unsupported_shape_of_call call.now }
 {
     if is_shape_supported(call) {
         return None;

@@ -41,26 +41,30 @@ impl BoardBeforeAck {
         BoardBeforeAck {
             sacked: board.sacked_octets(),
             undelivered_octets: board.undelivered_octets(),
-            lost_edge: board.lost_edge(),
+            lost_edge: board.after_last_lost_octet_or_zero(),
         }
     }
 
     /// The octets that the ACK delivers, by the scoreboard after it and how many octets it acknowledges.
-    fn delivery(self, acked: u32, board: &Board) -> Delivery
+    fn prr_delivery_by_board_after_ack(self, acked: u32, board: &Board) -> Delivery
         requires { acked < 2 ^ 31 }
         ensures { result ≡ record { delivered_data = acked + sacked_octets board.now - self.sacked; recover_fs = self.undelivered_octets; safe_ack = nat_lt 0 acked && nat_le (lost_edge board.now) self.lost_edge } }
     {
         Delivery {
             delivered_data: (acked + board.sacked_octets()).saturating_sub(self.sacked),
             recover_fs: self.undelivered_octets,
-            safe_ack: acked > 0 && board.lost_edge() <= self.lost_edge,
+            safe_ack: acked > 0 && board.after_last_lost_octet_or_zero() <= self.lost_edge,
         }
     }
 }
 
 /// Marks one block more, if all its octets were sent. The answer says whether a block reported a new octet: `so_far` says it
 /// of those before.
-fn mark_block(board: &mut Board, block: Span, so_far: bool) -> Result<bool, AllocError>
+fn mark_block_if_sent_reporting_any_new(
+    board: &mut Board,
+    block: Span,
+    so_far: bool,
+) -> Result<bool, AllocError>
     ensures ok { IfOk result (λ fresh. (board.new, fresh) ≡ with_block_marked block (board.old, so_far)) }
     ensures una { board.new.una ≡ board.old.una }
 {
@@ -71,18 +75,22 @@ fn mark_block(board: &mut Board, block: Span, so_far: bool) -> Result<bool, Allo
     Ok(so_far)
 }
 
-fn mark_blocks(board: &mut Board, blocks: &[Span], so_far: bool) -> Result<bool, AllocError>
+fn mark_blocks_if_sent_reporting_any_new(
+    board: &mut Board,
+    blocks: &[Span],
+    so_far: bool,
+) -> Result<bool, AllocError>
     ensures ok { IfOk result (λ fresh. (board.new, fresh) ≡ with_blocks_marked blocks.now (board.old, so_far)) }
     ensures una { board.new.una ≡ board.old.una }
 {
     let mut fresh = so_far;
     for block in blocks {
-        fresh = mark_block(board, *block, fresh)?;
+        fresh = mark_block_if_sent_reporting_any_new(board, *block, fresh)?;
     }
     Ok(fresh)
 }
 
-fn mark_blocks_of_option(
+fn mark_single_option_reporting_any_new(
     board: &mut Board,
     option: &SegOption,
     so_far: bool,
@@ -91,13 +99,20 @@ fn mark_blocks_of_option(
     ensures una { board.new.una ≡ board.old.una }
 {
     match option {
-        SegOption::Sack(blocks) => mark_blocks(board, blocks.as_slice(), so_far),
+        SegOption::Sack(blocks) => mark_blocks_if_sent_reporting_any_new(
+            board,
+            blocks.as_slice(),
+            so_far,
+        ),
         _ => Ok(so_far),
     }
 }
 
 /// Marks the blocks before the end of the options. The answer says whether they reported a new octet.
-fn mark_blocks_of_options(board: &mut Board, options: &[SegOption]) -> Result<bool, AllocError>
+fn mark_blocks_before_eol_reporting_any_new(
+    board: &mut Board,
+    options: &[SegOption],
+) -> Result<bool, AllocError>
     ensures ok { IfOk result (λ fresh. (board.new, fresh) ≡ with_blocks_marked (blocks_of (before_eol options.now)) (board.old, false)) }
     ensures una { board.new.una ≡ board.old.una }
 {
@@ -106,19 +121,23 @@ fn mark_blocks_of_options(board: &mut Board, options: &[SegOption]) -> Result<bo
         if let SegOption::Eol = option {
             return Ok(fresh);
         }
-        fresh = mark_blocks_of_option(board, option, fresh)?;
+        fresh = mark_single_option_reporting_any_new(board, option, fresh)?;
     }
     Ok(fresh)
 }
 
 /// Congestion control notes a segment that filled the room of its window.
-fn note_fill_in_congestion(congestion: &mut Cong, filling: WindowFill, sent: &NextSegment)
+fn note_nextseg_or_limited_transmit_sent(
+    congestion: &mut Cong,
+    filling: WindowFill,
+    sent: &NextSegment,
+)
     requires some { (segment_of sent.now).start ≤ (segment_of sent.now).end }
     requires short { octets_of (segment_of sent.now) ≤ 65495 }
     ensures { congestion.new ≡ fill_noted_by filling sent.now congestion.old }
 {
     match filling {
-        WindowFill::NextSeg => congestion.note_sent(sent),
+        WindowFill::NextSeg => congestion.update_high_or_rescue_rxt_and_prr(sent),
         WindowFill::NewData => {
             let segment = sent.segment();
             congestion.count_limited_transmit_octets(segment.end - segment.start);
@@ -132,7 +151,7 @@ impl Connection {
     ///
     /// # Errors
     /// `AllocError` where the scoreboard finds no memory for a block, or has found none before.
-    pub fn process_acceptable_segment(
+    pub fn update_by_ack_and_choose_ack_action(
         &mut self,
         segment: &Segment,
         now: u64,
@@ -151,8 +170,15 @@ impl Connection {
         let acked = segment.ack - self.board.una();
         let before = BoardBeforeAck::of(&self.board);
         let fresh = self.take_ack(segment, &mut established, now)?;
-        let delivery = before.delivery(acked, &self.board);
-        Ok(self.update_congestion(segment, acked, delivery, fresh, rwnd, established))
+        let delivery = before.prr_delivery_by_board_after_ack(acked, &self.board);
+        Ok(self.update_congestion_and_choose_ack_action(
+            segment,
+            acked,
+            delivery,
+            fresh,
+            rwnd,
+            established,
+        ))
     }
 
     /// Takes the number, the blocks, the timer and the window of a segment. The answer says whether the blocks reported a new
@@ -172,26 +198,32 @@ impl Connection {
     {
         let acked = segment.ack - self.board.una();
         self.board.take_ack(segment.ack);
-        let fresh = self.mark_sacked(segment)?;
-        self.update_rtt_and_timer(acked, established.granularity_us, now);
-        self.update_window(segment, established);
+        let fresh = self.mark_blocks_if_sack_agreed_reporting_new(segment)?;
+        self.update_rtt_and_timer_if_una_advanced(acked, established.granularity_us, now);
+        self.update_rwnd_unless_segment_old(segment, established);
         Ok(fresh)
     }
 
     /// Marks the octets of the blocks, where SACK was agreed. The answer says whether they reported a new octet.
-    fn mark_sacked(&mut self, segment: &Segment) -> Result<bool, AllocError>
+    fn mark_blocks_if_sack_agreed_reporting_new(
+        &mut self,
+        segment: &Segment,
+    ) -> Result<bool, AllocError>
         ensures marked { OnOk result (self.new ≡ with_blocks segment.now self.old) }
         ensures fresh { IfOk result (λ fresh. fresh ≡ (blocks_marked segment.now self.old).1) }
     {
         if !self.sack {
             return Ok(false);
         }
-        let fresh = mark_blocks_of_options(&mut self.board, segment.options.as_slice())?;
+        let fresh = mark_blocks_before_eol_reporting_any_new(
+            &mut self.board,
+            segment.options.as_slice(),
+        )?;
         Ok(fresh)
     }
 
     /// Only new octets move the timer.
-    fn update_rtt_and_timer(&mut self, acked: u32, granularity_us: u64, now: u64)
+    fn update_rtt_and_timer_if_una_advanced(&mut self, acked: u32, granularity_us: u64, now: u64)
         requires early { now < 2 ^ 62 }
         ensures { self.new ≡ with_timing now granularity_us acked self.old }
     {
@@ -200,22 +232,22 @@ impl Connection {
         }
         let una = self.board.una();
         self.sample(now, granularity_us, una);
-        self.update_timer(now);
+        self.restart_timer_or_stop_if_all_acked(now);
     }
 
     /// The window is taken, unless the segment is old.
-    fn update_window(&mut self, segment: &Segment, established: &mut Established)
+    fn update_rwnd_unless_segment_old(&mut self, segment: &Segment, established: &mut Established)
         ensures { (self.new, established.new) ≡ with_new_window segment.now established.old self.old }
     {
         if established.can_update_window(segment) {
             let window = self.scaled_window_in(segment);
-            established.take_window(segment, window);
+            established.set_rwnd_wl1_and_wl2(segment, window);
             self.max_window = self.max_window.max(window);
         }
     }
 
     /// The report of the blocks, where SACK was agreed.
-    fn sack_news(&self, fresh: bool) -> Option<SackNews>
+    fn sack_news_fresh_and_lost_if_agreed(&self, fresh: bool) -> Option<SackNews>
         ensures { result ≡ sack_news_of fresh self.now }
     {
         if !self.sack {
@@ -226,7 +258,7 @@ impl Connection {
     }
 
     /// Congestion control learns what the segment acknowledged: what follows.
-    fn update_congestion(
+    fn update_congestion_and_choose_ack_action(
         &mut self,
         segment: &Segment,
         acked: u32,
@@ -249,31 +281,33 @@ impl Connection {
             delivery,
             same_window: self.scaled_window_in(segment) == rwnd,
             fin: segment.flags.fin,
-            sack: self.sack_news(fresh),
+            sack: self.sack_news_fresh_and_lost_if_agreed(fresh),
         };
         let next = after.congestion.on_ack(ack);
-        self.set_prr_cwnd_before_sending(next, &mut after.congestion);
+        self.set_prr_cwnd_on_stepc_or_entry(next, &mut after.congestion);
         self.established = Some(after);
         next
     }
 
     /// The window of what follows: by PRR it is set before anything is sent.
-    fn set_prr_cwnd_before_sending(&self, next: AckAction, congestion: &mut Cong)
+    fn set_prr_cwnd_on_stepc_or_entry(&self, next: AckAction, congestion: &mut Cong)
         ensures { congestion.new ≡ record congestion.old { cwnd = cwnd_after next self.now congestion.old } }
     {
         match next {
-            AckAction::StepC | AckAction::Entry => self.set_prr_cwnd(congestion),
+            AckAction::StepC | AckAction::Entry => self.set_cwnd_by_pipe_if_prr_recovering(
+                congestion,
+            ),
             _ => {}
         }
     }
 
     /// By PRR the pipe sets the window (RFC 9937, section 6).
-    fn set_prr_cwnd(&self, congestion: &mut Cong)
+    fn set_cwnd_by_pipe_if_prr_recovering(&self, congestion: &mut Cong)
         ensures { congestion.new ≡ with_prr_cwnd_on self.now congestion.old }
     {
         if congestion.is_prr_recovering() {
             let pipe = self.board.pipe(congestion.high_rxt());
-            congestion.set_prr_cwnd(self.board.smss(), pipe);
+            congestion.set_cwnd_pipe_plus_sndcnt_if_prr(self.board.smss(), pipe);
         }
     }
 
@@ -295,18 +329,24 @@ impl Connection {
     }
 
     /// Recovery has begun with this segment: HighRxt and RescueRxt, and by PRR what was sent.
-    pub fn note_entry_retransmit(&mut self, segment: Span)
+    pub fn set_high_and_rescue_rxt_to_segment_end(&mut self, segment: Span)
         ensures { self.new ≡ entered_on segment self.old self.old.established }
     {
         let Some(mut established) = self.established else {
             return;
         };
-        established.congestion.note_entry_retransmit(segment);
+        established
+            .congestion
+            .set_high_and_rescue_rxt_to_segment_end(segment);
         self.established = Some(established);
     }
 
     /// The segment that is sent next while the congestion window has room.
-    pub fn next_fill_segment(&self, filling: WindowFill, pipe: u32) -> Option<NextSegment>
+    pub fn find_nextseg_or_limited_transmit_segment(
+        &self,
+        filling: WindowFill,
+        pipe: u32,
+    ) -> Option<NextSegment>
         ensures value { result ≡ next_fill filling pipe (Some self.now) }
         ensures sendable { IfSome result (λ sent. IsSendable self.now.board (segment_of sent)) }
         ensures fits { IfSome result (λ sent. pipe + octets_of (segment_of sent) ≤ 2 ^ 31) }
@@ -328,7 +368,7 @@ impl Connection {
     ///
     /// # Errors
     /// `AllocError` for new octets where the scoreboard has found no memory before.
-    pub fn note_fill_sent(
+    pub fn note_fill_sent_in_board_and_congestion(
         &mut self,
         filling: WindowFill,
         sent: &NextSegment,
@@ -339,13 +379,17 @@ impl Connection {
         ensures { OnOk result (self.new ≡ fill_noted_on filling sent.now (sent_as now sent.now self.old) self.old.established) }
     {
         self.board.law_invariant();
-        self.note_sent_new_or_again(sent, now)?;
-        self.note_sent_in_congestion(filling, sent);
+        self.start_timer_and_advance_next_if_new(sent, now)?;
+        self.note_sent_segment_in_congestion(filling, sent);
         Ok(())
     }
 
     /// New octets move the sending place; octets sent again leave it.
-    fn note_sent_new_or_again(&mut self, sent: &NextSegment, now: u64) -> Result<(), AllocError>
+    fn start_timer_and_advance_next_if_new(
+        &mut self,
+        sent: &NextSegment,
+        now: u64,
+    ) -> Result<(), AllocError>
         requires early { now < 2 ^ 62 }
         requires sendable { IsSendable self.old.board (segment_of sent.now) }
         ensures { OnOk result (self.new ≡ sent_as now sent.now self.old) }
@@ -361,13 +405,13 @@ impl Connection {
         }
     }
 
-    fn note_sent_in_congestion(&mut self, filling: WindowFill, sent: &NextSegment)
+    fn note_sent_segment_in_congestion(&mut self, filling: WindowFill, sent: &NextSegment)
         requires some { (segment_of sent.now).start ≤ (segment_of sent.now).end }
         requires short { octets_of (segment_of sent.now) ≤ 65495 }
         ensures { self.new ≡ fill_noted_on filling sent.now self.old self.old.established }
     {
         if let Some(established) = &mut self.established {
-            note_fill_in_congestion(&mut established.congestion, filling, sent);
+            note_nextseg_or_limited_transmit_sent(&mut established.congestion, filling, sent);
         }
     }
 }

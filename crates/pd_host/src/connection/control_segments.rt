@@ -33,7 +33,7 @@ fn own_window_shift(scaling: Option<Scaling>) -> u8
 }
 
 /// The RST that refuses an ack number.
-pub fn refusing_rst(ack: u32, alloc: Global) -> Segment
+pub fn rst_refusing_ack_number(ack: u32, alloc: Global) -> Segment
     ensures { result ≡ refusal_of ack }
 {
     Segment {
@@ -100,7 +100,7 @@ impl Connection {
     }
 
     /// An ACK of what was received.
-    pub fn acknowledgment(&self, alloc: Global) -> Segment
+    pub fn pure_ack_segment(&self, alloc: Global) -> Segment
         ensures { result ≡ ack_of self.now }
     {
         Segment {

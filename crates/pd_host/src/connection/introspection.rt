@@ -62,12 +62,12 @@ impl Connection {
             top: self.board.top(),
             end: self.board.end(),
             rto_us: self.timer.rto(),
-            windows: self.window_snapshot(),
+            windows: self.window_snapshot_if_established(),
             is_reset: self.is_reset,
         }
     }
 
-    fn window_snapshot(&self) -> Option<WindowSnapshot>
+    fn window_snapshot_if_established(&self) -> Option<WindowSnapshot>
         ensures { result ≡ windows_of self.now }
     {
         match &self.established {
@@ -77,13 +77,13 @@ impl Connection {
                 ssthresh: established.congestion.ssthresh(),
                 rwnd: established.rwnd,
                 dup_acks: established.congestion.dup_acks(),
-                recovery: self.recovery(established),
+                recovery: self.recovery_kind_with_pipe(established),
                 prr: prr_if_used(&established.congestion),
             }),
         }
     }
 
-    fn recovery(&self, established: &Established) -> Recovery
+    fn recovery_kind_with_pipe(&self, established: &Established) -> Recovery
         ensures { result ≡ recovery_of self.now established.now.congestion }
     {
         if !established.congestion.is_recovering() {
@@ -102,7 +102,10 @@ impl Connection {
     pub fn send_blocker(&self) -> Result<SendBlocker, AllocError>
         ensures { IfOk result (λ send_blocker. send_blocker ≡ blocker_of (with_next_past_sacked self.now)) }
     {
-        Ok(self.with_next_past_sacked()?.send_blocker_from_next())
+        Ok(
+            self.with_next_past_sacked()?
+                .send_blocker_without_skipping_sacked(),
+        )
     }
 
     /// The octet that has to lie within the windows for the next segment to leave, once its sending place has moved past
@@ -121,12 +124,12 @@ impl Connection {
         ensures { IfOk result (λ ready. ready ≡ with_next_past_sacked self.now) }
     {
         let mut ready = self.with_board(self.board.copy()?);
-        ready.skip_sacked();
+        ready.advance_next_past_sacked();
         Ok(ready)
     }
 
     /// Why it sends nothing by itself from the sending place on.
-    fn send_blocker_from_next(&self) -> SendBlocker
+    fn send_blocker_without_skipping_sacked(&self) -> SendBlocker
         ensures { result ≡ blocker_of self.now }
     {
         if self.is_reset {
@@ -207,7 +210,7 @@ impl Connection {
     {
         if !self.is_worth_sending(established) {
             SendBlocker::PartOfSegment
-        } else if self.can_new_segment_leave(established) {
+        } else if self.may_leave_by_sws_and_nagle(established) {
             SendBlocker::Open
         } else {
             SendBlocker::Nagle

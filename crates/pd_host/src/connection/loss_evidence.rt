@@ -1,7 +1,7 @@
 //! Evidence that may lead to sending next: duplicates, and the measurements of the timer.
 ghost use Rattle.std.specs.Prelude.{◌≡◌};
 ghost use Rattle.pd_board.specs.Runs.{AreRuns};
-ghost use Rattle.pd_host.specs.LossEvidence.{sack_evidence_of, loss_evidence_of, established_dup_ack_effect, dup_ack_status_of, timeout_of};
+ghost use Rattle.pd_host.specs.LossEvidence.{sack_evidence_of, loss_evidence_of, established_next_dup_ack_effect, dup_ack_status_of, timeout_of};
 
 use super::Connection;
 use crate::established::Established;
@@ -45,17 +45,17 @@ pub struct SackEvidence {
 
 impl Connection {
     /// The effect of a duplicate; nothing where no octet is outstanding, recovery goes on, or none is looked at.
-    pub fn dup_ack_effect(&self) -> Option<DupAckEffect>
+    pub fn next_dup_ack_effect_if_any(&self) -> Option<DupAckEffect>
         ensures { result ≡ dup_ack_status_of self.now }
     {
         match &self.established {
             None => None,
-            Some(established) => self.established_dup_ack_effect(established),
+            Some(established) => self.established_next_dup_ack_effect(established),
         }
     }
 
-    fn established_dup_ack_effect(&self, established: &Established) -> Option<DupAckEffect>
-        ensures { result ≡ established_dup_ack_effect self.now established.now }
+    fn established_next_dup_ack_effect(&self, established: &Established) -> Option<DupAckEffect>
+        ensures { result ≡ established_next_dup_ack_effect self.now established.now }
     {
         let congestion = &established.congestion;
         if self.is_reset || congestion.is_recovering() || self.board.una() == self.board.top() {
@@ -85,7 +85,7 @@ impl Connection {
         ensures { result ≡ sack_evidence_of self.now.board }
     {
         self.board.law_invariant();
-        let sacked_counts_above = self.board.sacked_counts_above(self.board.una());
+        let sacked_counts_above = self.board.sacked_octets_and_runs_above(self.board.una());
         SackEvidence {
             octets: sacked_counts_above.octets,
             most: (DUP_THRESH - 1) * u32::from(self.board.smss()),
@@ -100,7 +100,9 @@ impl Connection {
     {
         match &self.established {
             None => None,
-            Some(established) => self.timer.rto_derivation(established.granularity_us),
+            Some(established) => self
+                .timer
+                .rto_derivation_before_backoff(established.granularity_us),
         }
     }
 
@@ -108,6 +110,6 @@ impl Connection {
     pub fn sacked_runs(&self) -> &[Span]
         ensures { AreRuns self.now.board result.now }
     {
-        self.board.runs()
+        self.board.sacked_spans()
     }
 }

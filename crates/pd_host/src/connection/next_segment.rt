@@ -3,7 +3,7 @@ ghost use Rattle.std.specs.Prelude.{◌≡◌, ◌<◌, ◌^◌, Some, IfSome, I
 ghost use Rattle.pd_host.specs.Connection.{data_end};
 ghost use Rattle.pd_host.specs.Packets.{covers_fin, has_last_data_octet, data_of};
 ghost use Rattle.pd_host.specs.SendBlockers.{is_worth_sending};
-ghost use Rattle.pd_host.specs.Sending.{window_edge, usable_window, unsent_octets, sendable_octets, unsent_segment, can_send_full_segment, can_send_all_queued, can_send_half_max_window, can_new_segment_leave, is_nagle_delayed, next_new_segment, next_retransmit_segment, found, is_idle, restarted_if_idle, with_next_past_sacked, sent_on};
+ghost use Rattle.pd_host.specs.Sending.{una_plus_smaller_window, usable_window, unsent_octets, unsent_octets_in_usable_window, unsent_segment, can_send_full_segment, is_unsent_within_usable_window, can_send_half_max_window, may_leave_by_sws_and_nagle, is_nagle_delayed, next_new_segment, retransmit_segment_at_next_if_in_windows, found, is_idle, restarted_if_idle, with_next_past_sacked, sent_on};
 ghost use Rattle.pd_host.specs.Steps.{IsQueued};
 
 use super::Connection;
@@ -55,8 +55,8 @@ impl Connection {
         }
     }
 
-    fn window_edge(&self, established: &Established) -> u32
-        ensures { result ≡ window_edge self.now established.now }
+    fn una_plus_smaller_window(&self, established: &Established) -> u32
+        ensures { result ≡ una_plus_smaller_window self.now established.now }
     {
         self.board.una() + established.congestion.cwnd().min(established.rwnd)
     }
@@ -65,7 +65,7 @@ impl Connection {
     fn usable_window(&self, established: &Established) -> u32
         ensures { result ≡ usable_window self.now established.now }
     {
-        self.window_edge(established)
+        self.una_plus_smaller_window(established)
             .saturating_sub(self.board.next())
     }
 
@@ -76,8 +76,8 @@ impl Connection {
         self.board.end().saturating_sub(self.board.next())
     }
 
-    fn sendable_octets(&self, established: &Established) -> u32
-        ensures { result ≡ sendable_octets self.now established.now }
+    fn unsent_octets_in_usable_window(&self, established: &Established) -> u32
+        ensures { result ≡ unsent_octets_in_usable_window self.now established.now }
     {
         self.unsent_octets().min(self.usable_window(established))
     }
@@ -87,7 +87,7 @@ impl Connection {
         ensures queued { IsQueued result self.now }
     {
         let octets = self
-            .sendable_octets(established)
+            .unsent_octets_in_usable_window(established)
             .min(u32::from(self.board.smss()));
         Span {
             start: self.board.next(),
@@ -108,12 +108,12 @@ impl Connection {
     fn can_send_full_segment(&self, established: &Established) -> bool
         ensures { result ≡ can_send_full_segment self.now established.now }
     {
-        self.sendable_octets(established) >= u32::from(self.board.smss())
+        self.unsent_octets_in_usable_window(established) >= u32::from(self.board.smss())
     }
 
     /// Whether all that is queued can leave.
-    fn can_send_all_queued(&self, established: &Established) -> bool
-        ensures { result ≡ can_send_all_queued self.now established.now }
+    fn is_unsent_within_usable_window(&self, established: &Established) -> bool
+        ensures { result ≡ is_unsent_within_usable_window self.now established.now }
     {
         self.unsent_octets() <= self.usable_window(established)
     }
@@ -122,15 +122,16 @@ impl Connection {
     fn can_send_half_max_window(&self, established: &Established) -> bool
         ensures { result ≡ can_send_half_max_window self.now established.now }
     {
-        u64::from(self.sendable_octets(established)) * 2 >= u64::from(self.max_window)
+        u64::from(self.unsent_octets_in_usable_window(established)) * 2
+            >= u64::from(self.max_window)
     }
 
     /// Whether a segment of new octets leaves.
-    pub fn can_new_segment_leave(&self, established: &Established) -> bool
-        ensures { result ≡ can_new_segment_leave self.now established.now }
+    pub fn may_leave_by_sws_and_nagle(&self, established: &Established) -> bool
+        ensures { result ≡ may_leave_by_sws_and_nagle self.now established.now }
     {
         self.can_send_full_segment(established)
-            || ((self.can_send_all_queued(established)
+            || ((self.is_unsent_within_usable_window(established)
                 || self.can_send_half_max_window(established))
                 && !self.is_nagle_delayed(established))
     }
@@ -140,7 +141,7 @@ impl Connection {
         ensures { result ≡ is_worth_sending self.now established.now }
     {
         self.can_send_full_segment(established)
-            || self.can_send_all_queued(established)
+            || self.is_unsent_within_usable_window(established)
             || self.can_send_half_max_window(established)
     }
 
@@ -148,19 +149,21 @@ impl Connection {
         ensures value { result ≡ next_new_segment self.now established.now }
         ensures queued { IfSome result (λ segment. IsQueued segment self.now) }
     {
-        if self.sendable_octets(established) > 0 && self.can_new_segment_leave(established) {
+        if self.unsent_octets_in_usable_window(established) > 0
+            && self.may_leave_by_sws_and_nagle(established)
+        {
             Some(self.unsent_segment(established))
         } else {
             None
         }
     }
 
-    fn next_retransmit_segment(&self, established: &Established) -> Option<Span>
-        ensures value { result ≡ next_retransmit_segment self.now established.now }
+    fn retransmit_segment_at_next_if_in_windows(&self, established: &Established) -> Option<Span>
+        ensures value { result ≡ retransmit_segment_at_next_if_in_windows self.now established.now }
         ensures queued { IfSome result (λ segment. IsQueued segment self.now) }
     {
         let segment = self.board.run_at(self.board.next());
-        if segment.end <= self.window_edge(established) {
+        if segment.end <= self.una_plus_smaller_window(established) {
             Some(segment)
         } else {
             None
@@ -176,7 +179,7 @@ impl Connection {
             return None;
         };
         if self.board.next() < self.board.top() {
-            self.next_retransmit_segment(established)
+            self.retransmit_segment_at_next_if_in_windows(established)
         } else {
             self.next_new_segment(established)
         }
@@ -203,10 +206,10 @@ impl Connection {
     }
 
     /// The sending place moves past SACKed octets.
-    pub fn skip_sacked(&mut self)
+    pub fn advance_next_past_sacked(&mut self)
         ensures { self.new ≡ with_next_past_sacked self.old }
     {
-        self.board.skip_sacked();
+        self.board.advance_next_past_sacked();
     }
 
     /// A segment was sent from the sending place at a moment.

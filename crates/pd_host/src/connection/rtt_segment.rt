@@ -1,6 +1,6 @@
 //! The timer of a connection, and the segment whose round trip is measured.
 ghost use Rattle.std.specs.Prelude.{◌≡◌, ◌<◌, ◌^◌};
-ghost use Rattle.pd_host.specs.RttSegment.{overlaps, rtt_segment_after, timing_started, with_sample, with_timer_updated, with_handshake_timer_ended};
+ghost use Rattle.pd_host.specs.RttSegment.{overlaps, rtt_segment_after_sending, timing_started, with_sample, with_timer_updated, with_handshake_timer_ended};
 
 use super::Connection;
 use pd_seg::Span;
@@ -21,13 +21,13 @@ fn overlaps(a: Span, b: Span) -> bool
 }
 
 /// The segment that is timed after another one was sent at a moment.
-fn rtt_segment_after(
+fn rtt_segment_after_sending(
     now: u64,
     segment: Span,
     top: u32,
     rtt_segment: Option<RttSegment>,
 ) -> Option<RttSegment>
-    ensures { result ≡ rtt_segment_after now segment top rtt_segment }
+    ensures { result ≡ rtt_segment_after_sending now segment top rtt_segment }
 {
     match rtt_segment {
         None if top <= segment.start => Some(RttSegment {
@@ -46,7 +46,12 @@ impl Connection {
         requires early { now < 2 ^ 62 }
         ensures { self.new ≡ timing_started now segment self.old }
     {
-        self.rtt_segment = rtt_segment_after(now, segment, self.board.top(), self.rtt_segment);
+        self.rtt_segment = rtt_segment_after_sending(
+            now,
+            segment,
+            self.board.top(),
+            self.rtt_segment,
+        );
         self.timer.start(now);
         self.last_sent = now;
     }
@@ -66,7 +71,7 @@ impl Connection {
     }
 
     /// The timer starts anew, or stops where all that was sent is acknowledged.
-    pub fn update_timer(&mut self, now: u64)
+    pub fn restart_timer_or_stop_if_all_acked(&mut self, now: u64)
         requires early { now < 2 ^ 62 }
         ensures { self.new ≡ with_timer_updated now self.old }
     {
@@ -78,7 +83,7 @@ impl Connection {
     }
 
     /// The timer at the end of the handshake.
-    pub fn end_handshake_timer(&mut self)
+    pub fn stop_handshake_timer_set_rto_if_resent(&mut self)
         ensures { self.new ≡ with_handshake_timer_ended self.old }
     {
         if self.syn_ack_resent {

@@ -1,7 +1,7 @@
 //! The checks of a segment that arrives on a connection.
 ghost use Rattle.std.specs.Prelude.{◌≡◌, ◌≤◌, Some, IfNone};
 ghost use Rattle.pd_host.specs.declared.connection.segment_check.SegmentCheck.TheVariants.{FirstAck};
-ghost use Rattle.pd_host.specs.Arrivals.{is_in_window, is_next_fin, is_stray_fin, check_contents, check_window, check_rst, check_ack_flag, check_handshake, check_ack, failed_check_of};
+ghost use Rattle.pd_host.specs.Arrivals.{is_in_window, is_next_fin, has_in_window_fin_out_of_order, failed_check_if_contents_unsupported, failed_check_if_outside_receive_window, exact_or_challenged_check_if_rst, failed_check_if_ack_flag_missing, first_or_refused_ack_check_in_handshake, failed_check_if_ack_early_or_old, failed_check_of};
 
 use super::Connection;
 use pd_seg::Segment;
@@ -34,26 +34,26 @@ pub enum SegmentCheck {
 impl Connection {
     /// The ruling of the first check that rules; `None` for a segment that passes them all.
     #[inline(always)]
-    pub fn failed_check(&self, segment: &Segment) -> Option<SegmentCheck>
+    pub fn find_deciding_segment_check(&self, segment: &Segment) -> Option<SegmentCheck>
         ensures failed_check { result ≡ failed_check_of self.now segment.now }
         ensures known { IfNone result (self.now.board.una ≤ segment.now.ack) }
         ensures sent { IfNone result (segment.now.ack ≤ self.now.board.top) }
         ensures first { result ≡ Some FirstAck → (self.now.board.una ≤ 1) × (1 ≤ self.now.board.top) }
     {
-        self.check_contents(segment)
-            .or(self.check_window(segment))
-            .or(self.check_rst(segment))
-            .or(check_ack_flag(segment))
-            .or(self.check_handshake(segment))
-            .or(self.check_ack(segment))
+        self.failed_check_if_contents_unsupported(segment)
+            .or(self.failed_check_if_outside_receive_window(segment))
+            .or(self.exact_or_challenged_check_if_rst(segment))
+            .or(failed_check_if_ack_flag_missing(segment))
+            .or(self.first_or_refused_ack_check_in_handshake(segment))
+            .or(self.failed_check_if_ack_early_or_old(segment))
     }
 
-    fn check_contents(&self, segment: &Segment) -> Option<SegmentCheck>
-        ensures { result ≡ check_contents self.now segment.now }
+    fn failed_check_if_contents_unsupported(&self, segment: &Segment) -> Option<SegmentCheck>
+        ensures { result ≡ failed_check_if_contents_unsupported self.now segment.now }
     {
         if segment.data_len() > 0
             || segment.flags.syn
-            || self.is_stray_fin(segment)
+            || self.has_in_window_fin_out_of_order(segment)
             || self.state().is_closed()
         {
             Some(SegmentCheck::NotRun)
@@ -63,8 +63,8 @@ impl Connection {
     }
 
     /// Whether it has a FIN in the receive window that isn't the peer's next octet.
-    fn is_stray_fin(&self, segment: &Segment) -> bool
-        ensures { result ≡ is_stray_fin self.now segment.now }
+    fn has_in_window_fin_out_of_order(&self, segment: &Segment) -> bool
+        ensures { result ≡ has_in_window_fin_out_of_order self.now segment.now }
     {
         segment.flags.fin && self.is_in_window(segment) && !self.is_next_fin(segment)
     }
@@ -83,8 +83,8 @@ impl Connection {
         next <= segment.start && segment.start - next < self.rcv_wnd
     }
 
-    fn check_window(&self, segment: &Segment) -> Option<SegmentCheck>
-        ensures { result ≡ check_window self.now segment.now }
+    fn failed_check_if_outside_receive_window(&self, segment: &Segment) -> Option<SegmentCheck>
+        ensures { result ≡ failed_check_if_outside_receive_window self.now segment.now }
     {
         if self.is_in_window(segment) {
             None
@@ -95,8 +95,8 @@ impl Connection {
         }
     }
 
-    fn check_rst(&self, segment: &Segment) -> Option<SegmentCheck>
-        ensures { result ≡ check_rst self.now segment.now }
+    fn exact_or_challenged_check_if_rst(&self, segment: &Segment) -> Option<SegmentCheck>
+        ensures { result ≡ exact_or_challenged_check_if_rst self.now segment.now }
     {
         if !segment.flags.rst {
             None
@@ -107,8 +107,8 @@ impl Connection {
         }
     }
 
-    fn check_handshake(&self, segment: &Segment) -> Option<SegmentCheck>
-        ensures failed_check { result ≡ check_handshake self.now segment.now }
+    fn first_or_refused_ack_check_in_handshake(&self, segment: &Segment) -> Option<SegmentCheck>
+        ensures failed_check { result ≡ first_or_refused_ack_check_in_handshake self.now segment.now }
         ensures known { IfNone self.now.established (self.now.board.una ≤ 1) }
     {
         if self.established.is_some() {
@@ -120,8 +120,8 @@ impl Connection {
         }
     }
 
-    fn check_ack(&self, segment: &Segment) -> Option<SegmentCheck>
-        ensures { result ≡ check_ack self.now segment.now }
+    fn failed_check_if_ack_early_or_old(&self, segment: &Segment) -> Option<SegmentCheck>
+        ensures { result ≡ failed_check_if_ack_early_or_old self.now segment.now }
     {
         if self.board.top() < segment.ack {
             Some(SegmentCheck::EarlyAck)
@@ -133,8 +133,8 @@ impl Connection {
     }
 }
 
-fn check_ack_flag(segment: &Segment) -> Option<SegmentCheck>
-    ensures { result ≡ check_ack_flag segment.now }
+fn failed_check_if_ack_flag_missing(segment: &Segment) -> Option<SegmentCheck>
+    ensures { result ≡ failed_check_if_ack_flag_missing segment.now }
 {
     if segment.flags.ack {
         None

@@ -1,6 +1,6 @@
 //! The states of a connection, by their names.
 ghost use Rattle.std.specs.Prelude.{◌≡◌, ◌==◌};
-ghost use Rattle.pd_host.specs.ConnStates.{is_closed, synchronized_state, state_of};
+ghost use Rattle.pd_host.specs.ConnStates.{is_closed, state_from_fins_and_all_acked, state_of};
 
 use super::Connection;
 use crate::established::{Established, PeerFin};
@@ -38,8 +38,12 @@ impl ConnState {
 
 /// The state from the end of the handshake on: by the peer's FIN, by whether ours is queued, and by whether all that is
 /// queued is acknowledged.
-fn synchronized_state(peer_fin: PeerFin, is_fin_queued: bool, is_all_acked: bool) -> ConnState
-    ensures { result ≡ synchronized_state peer_fin is_fin_queued is_all_acked }
+fn state_from_fins_and_all_acked(
+    peer_fin: PeerFin,
+    is_fin_queued: bool,
+    is_all_acked: bool,
+) -> ConnState
+    ensures { result ≡ state_from_fins_and_all_acked peer_fin is_fin_queued is_all_acked }
 {
     match (peer_fin, is_fin_queued, is_all_acked) {
         (PeerFin::Awaited, false, _) => ConnState::Established,
@@ -68,9 +72,9 @@ impl Connection {
     }
 
     fn state_after_handshake(&self, established: &Established) -> ConnState
-        ensures { result ≡ synchronized_state established.now.peer_fin self.now.fin (self.now.board.una == self.now.board.end) }
+        ensures { result ≡ state_from_fins_and_all_acked established.now.peer_fin self.now.fin (self.now.board.una == self.now.board.end) }
     {
         let is_all_acked = self.board.una() == self.board.end();
-        synchronized_state(established.peer_fin, self.fin, is_all_acked)
+        state_from_fins_and_all_acked(established.peer_fin, self.fin, is_all_acked)
     }
 }

@@ -2,7 +2,7 @@
 ghost use Rattle.std.specs.Prelude.{◌≡◌, ◌+◌, ◌≤◌, IfSome};
 ghost use Rattle.std.specs.Bool.{OnTrue};
 ghost use Rattle.pd_board.specs.Board.{IsBoardView};
-ghost use Rattle.pd_recover.specs.NextSeg.{IsSendable, segment_of, first_by_next_seg_rules, next_send, step_c_segment, limited_transmit_segment, new_segment_on_board, has_room_for_segment, with_sent_noted};
+ghost use Rattle.pd_recover.specs.NextSeg.{IsSendable, segment_of, first_by_next_seg_rules, next_send, step_c_segment, limited_transmit_segment, new_segment_on_board_within_rwnd, has_room_for_segment, with_sent_noted};
 
 use super::Cong;
 use super::on_ack::new_segment_within_rwnd;
@@ -11,8 +11,8 @@ use pd_board::Board;
 use pd_seg::Span;
 
 /// The new segment at `top`, where data is queued and the peer's window in octets takes it.
-fn new_segment_on_board(board: &Board, rwnd: u32) -> Option<Span>
-    ensures value { result ≡ new_segment_on_board rwnd board.now }
+fn new_segment_on_board_within_rwnd(board: &Board, rwnd: u32) -> Option<Span>
+    ensures value { result ≡ new_segment_on_board_within_rwnd rwnd board.now }
     ensures sendable { IfSome result (IsSendable board.now) }
     ensures known { IsBoardView board.now }
 {
@@ -26,7 +26,7 @@ impl Cong {
         ensures value { result ≡ next_send rwnd board.now self.now }
         ensures sendable { IfSome result (λ sent. IsSendable board.now (segment_of sent)) }
     {
-        let unsent = new_segment_on_board(board, rwnd);
+        let unsent = new_segment_on_board_within_rwnd(board, rwnd);
         self.first_by_next_seg_rules(board, unsent)
     }
 
@@ -40,7 +40,7 @@ impl Cong {
         if let Some(segment) = unsent {
             return Some(NextSegment::New(segment));
         }
-        if let Some(start) = board.next_hole(self.high_rxt) {
+        if let Some(start) = board.find_unsacked_octet_by_nextseg_rule_3(self.high_rxt) {
             return Some(NextSegment::Hole(board.run_at(start)));
         }
         if self.rescue_rxt < board.una() {
@@ -69,7 +69,7 @@ impl Cong {
         ensures fits { IfSome result (λ _. pipe + board.now.smss ≤ self.now.cwnd) }
     {
         if self.has_room_for_segment(board, pipe) {
-            return new_segment_on_board(board, rwnd);
+            return new_segment_on_board_within_rwnd(board, rwnd);
         }
         None
     }
@@ -83,7 +83,7 @@ impl Cong {
     }
 
     /// Loss recovery has sent this segment (RFC 6675, section 4, NextSeg).
-    pub fn note_sent(&mut self, sent: &NextSegment)
+    pub fn update_high_or_rescue_rxt_and_prr(&mut self, sent: &NextSegment)
         ensures { self.new ≡ with_sent_noted sent.now self.old }
     {
         match *sent {

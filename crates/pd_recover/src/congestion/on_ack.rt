@@ -1,7 +1,7 @@
 //! The effect of an ACK on the congestion window and on loss recovery, and the sending that it leads to.
 ghost use Rattle.std.specs.Prelude.{◌≡◌, false, ◌+◌, ◌<◌, ◌≤◌, ◌^◌, IfSome};
 ghost use Rattle.std.specs.Bool.{OnTrue};
-ghost use Rattle.pd_recover.specs.Acks.{IsAck, IsNamed, acked, is_duplicate, grown_by, half_of, dup_ack_counted, recovery_ended, prr_begun, with_delivered, recovery_continued, new_segment_within_rwnd, first_outstanding_segment, acked_with_sack, acked_without_sack, selective_duplicate, plain_duplicate, limited_transmit, new_octets_acked};
+ghost use Rattle.pd_recover.specs.Acks.{IsAck, IsNamed, acked, is_rfc5681_duplicate, grown_by, half_of, dup_ack_counted, recovery_ended, prr_begun, with_delivered, recovery_continued, new_segment_within_rwnd, first_outstanding_segment, acked_with_sack, acked_without_sack, selective_duplicate, plain_duplicate, limited_transmit, new_octets_acked};
 ghost use Rattle.pd_recover.specs.Cong.{cwnd_growth, limit_of, widened};
 ghost use Rattle.pd_recover.specs.Prr.{IsPrrState};
 
@@ -44,8 +44,8 @@ impl Ack {
 
     /// Whether it acknowledges nothing new while octets are outstanding, its window is the one before, and no FIN comes
     /// with it.
-    fn is_duplicate(self) -> bool
-        ensures value { result ≡ is_duplicate self }
+    fn is_rfc5681_duplicate(self) -> bool
+        ensures value { result ≡ is_rfc5681_duplicate self }
         ensures outstanding { OnTrue result (self.una < self.top) }
     {
         self.acked == 0 && self.una < self.top && self.same_window && !self.fin
@@ -84,14 +84,14 @@ impl Cong {
             return AckAction::Ordinary;
         }
         if self.recovering {
-            return self.continue_sack_recovery(ack);
+            return self.count_prr_delivery_then_step_c(ack);
         }
         self.grow_cwnd_by_ack(ack);
         if !sack_news.fresh {
             return AckAction::Ordinary;
         }
         self.count_dup_ack();
-        self.on_duplicate_with_sack(ack, sack_news.lost)
+        self.act_on_counted_sack_duplicate(ack, sack_news.lost)
     }
 
     /// Recovery with SACK ends.
@@ -108,7 +108,7 @@ impl Cong {
     }
 
     /// An ACK in recovery with SACK that doesn't end it. By PRR one that delivers nothing changes nothing.
-    fn continue_sack_recovery(&mut self, ack: Ack) -> AckAction
+    fn count_prr_delivery_then_step_c(&mut self, ack: Ack) -> AckAction
         ensures state { self.new ≡ (recovery_continued ack self.old).0 }
         ensures then { result ≡ (recovery_continued ack self.old).1 }
         ensures named { IsNamed ack result }
@@ -142,7 +142,7 @@ impl Cong {
     }
 
     /// A duplicate with SACK, which is counted already (RFC 6675, section 5, steps 1 to 4).
-    fn on_duplicate_with_sack(&mut self, ack: Ack, lost: bool) -> AckAction
+    fn act_on_counted_sack_duplicate(&mut self, ack: Ack, lost: bool) -> AckAction
         requires { IsAck ack }
         ensures state { self.new ≡ (selective_duplicate ack lost self.old).0 }
         ensures then { result ≡ (selective_duplicate ack lost self.old).1 }
@@ -159,7 +159,7 @@ impl Cong {
             self.high_rxt = ack.una;
             return AckAction::LimitedTransmit;
         }
-        let ssthresh_after_loss = self.ssthresh_after_loss(ack);
+        let ssthresh_after_loss = self.rfc5681_ssthresh_after_loss(ack);
         self.prr = self.prr_at_recovery_start(ack);
         self.cwnd = ssthresh_after_loss;
         self.ssthresh = ssthresh_after_loss;
@@ -177,10 +177,10 @@ impl Cong {
         ensures named { IsNamed ack result }
     {
         if ack.acked > 0 {
-            self.on_new_ack_without_sack(ack);
+            self.end_recovery_or_grow_cwnd_by_new_ack(ack);
             return AckAction::Ordinary;
         }
-        if ack.is_duplicate() && self.recovery_point <= ack.una {
+        if ack.is_rfc5681_duplicate() && self.recovery_point <= ack.una {
             self.count_dup_ack();
             return self.on_duplicate_without_sack(ack);
         }
@@ -188,7 +188,7 @@ impl Cong {
     }
 
     /// New octets end recovery without SACK, and outside it widen the window.
-    fn on_new_ack_without_sack(&mut self, ack: Ack)
+    fn end_recovery_or_grow_cwnd_by_new_ack(&mut self, ack: Ack)
         requires { IsAck ack }
         ensures { self.new ≡ new_octets_acked ack self.old }
     {
@@ -212,7 +212,7 @@ impl Cong {
             return self.limited_transmit_without_sack(ack);
         }
         if self.dup_acks == DUP_THRESH {
-            let ssthresh_after_loss = self.ssthresh_after_loss(ack);
+            let ssthresh_after_loss = self.rfc5681_ssthresh_after_loss(ack);
             self.cwnd = ssthresh_after_loss + DUP_THRESH * u32::from(ack.smss);
             self.ssthresh = ssthresh_after_loss;
             self.recovering = true;
@@ -295,7 +295,7 @@ impl Cong {
     }
 
     /// Half of what is outstanding, without what limited transmit has sent (RFC 5681, section 3.1, equation 4).
-    fn ssthresh_after_loss(&self, ack: Ack) -> u32
+    fn rfc5681_ssthresh_after_loss(&self, ack: Ack) -> u32
         requires { IsAck ack }
         ensures value { result ≡ half_of ack self.now }
         ensures small { result ≤ 2 ^ 30 }

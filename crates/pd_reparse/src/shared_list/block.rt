@@ -40,7 +40,10 @@ impl<T: Drop> SharedBlock<T> {
     }
 
     /// The first items, shared. Fails only where the count of owners is full.
-    pub(crate) fn share_first(&self, count: usize) -> Result<SharedBlock<T>, AllocError>
+    pub(crate) fn share_first_without_copying(
+        &self,
+        count: usize,
+    ) -> Result<SharedBlock<T>, AllocError>
         requires { count ≤ length self.now }
         ensures { IfOk result (λ block. block ≡ take count self.now) }
     {
@@ -51,7 +54,7 @@ impl<T: Drop> SharedBlock<T> {
     }
 
     /// Whether so many of its items are better shared than copied: at least half of those that are held then, and not few.
-    pub(crate) fn should_share(&self, count: usize) -> bool {
+    pub(crate) fn should_share_rather_than_copy_first(&self, count: usize) -> bool {
         MIN_SHARED <= count && self.items.len() / 2 <= count
     }
 

@@ -5,16 +5,16 @@ ghost use Rattle.pd_host.specs.Expiries.{advanced, deadline_of};
 ghost use Rattle.pd_host.specs.Host.{IsShort};
 ghost use Rattle.pd_host.specs.declared.halts.HostEnd.TheVariants.{OutOfMemory};
 ghost use Rattle.pd_run.specs.Inner.{Ends};
-ghost use Rattle.pd_run.specs.Limits.{is_long, written_times, is_packet_over};
-ghost use Rattle.pd_run.specs.Step.{arrives, on_arrival, answers, on_answer, on_expiry, awaited, packet_taken, leaves, event_outcome, stop_reason, Steps};
+ghost use Rattle.pd_run.specs.Limits.{is_long, written_times, is_packet_number_over_limit};
+ghost use Rattle.pd_run.specs.Step.{arrives, on_arrival, answers, on_answer, on_expiry, awaited, packet_taken, leaves, perform_event_and_find_stop, stop_reason, Steps};
 
 use super::RunState;
-use crate::host_input::{arrive, call_answer};
-use crate::laws::law_sender;
+use crate::host_input::{advance_host_and_call, arrive};
+use crate::laws::law_sender_keeps_time_and_bounds_queueing;
 use crate::prechecks::{Precheck, failed_precheck};
 use crate::stepper::StepEnd;
 use crate::stop_reason::{StopKind, StopReason};
-use crate::times::{base_after, may_be_in_time, time_range_of};
+use crate::times::{base_after_expected_packet, is_not_too_late_within_tolerance, time_range_of};
 use pd_match::{Expect, check_call, check_packet};
 use pd_script::{Action, Call, Event, Packet};
 use std::alloc::AllocError;
@@ -35,7 +35,7 @@ impl RunState {
         if let Some(ending) = self.host.end_reason() {
             return Ok(StepEnd::Stop(StopKind::from_host_end(ending)?.verdict(event.line)));
         }
-        match self.event_outcome(event)? {
+        match self.perform_event_and_find_stop(event)? {
             None => Ok(StepEnd::Go),
             Some(stop) => Ok(StepEnd::Stop(stop.verdict(event.line))),
         }
@@ -45,7 +45,10 @@ impl RunState {
     ///
     /// # Errors
     /// `AllocError` where a growth is refused.
-    pub fn stop_reason(&self, event: &Event) -> Result<Option<StopReason>, AllocError>
+    pub fn preview_stop_reason_at_event(
+        &self,
+        event: &Event,
+    ) -> Result<Option<StopReason>, AllocError>
         requires live { self.now.host.end_reason ≡ None }
         requires clock { self.now.clock < 2 ^ 61 }
         requires base { self.now.base < 2 ^ 61 }
@@ -53,20 +56,20 @@ impl RunState {
         ensures { IfOk result (λ reason. reason ≡ stop_reason self.now event.now) }
     {
         let mut run = self.copy()?;
-        match run.event_outcome(event)? {
+        match run.perform_event_and_find_stop(event)? {
             None => Ok(None),
-            Some(stop) => Ok(Some(stop.into_reason(run)?)),
+            Some(stop) => Ok(Some(stop.into_reason_with_run(run)?)),
         }
     }
 
     /// How an event ends: its checks in order, then the event itself. Nothing where the run goes on.
     #[inline(always)]
-    fn event_outcome(&mut self, event: &Event) -> Result<Option<StopKind>, AllocError>
+    fn perform_event_and_find_stop(&mut self, event: &Event) -> Result<Option<StopKind>, AllocError>
         requires live { self.old.host.end_reason ≡ None }
         requires clock { self.old.clock < 2 ^ 61 }
         requires base { self.old.base < 2 ^ 61 }
         requires short { IsShort self.old.host.state }
-        ensures ends { IfOk result (λ end. Ends (event_outcome self.old event.now) end self.new) }
+        ensures ends { IfOk result (λ end. Ends (perform_event_and_find_stop self.old event.now) end self.new) }
         ensures memory { OnErr result (self.new.host.end_reason ≡ Some OutOfMemory) }
     {
         if let Some(bar) = failed_precheck(self.base, event) {
@@ -75,7 +78,7 @@ impl RunState {
         match &event.action {
             Action::Inbound(packet) => self.arrive(event, packet),
             Action::Outbound(packet) => {
-                self.note_tolerance_use();
+                self.note_tolerance_use_unless_in_header();
                 self.expect(event, packet)
             }
             Action::Call(call) => self.call(event, call),
@@ -89,12 +92,12 @@ impl RunState {
         requires clock { self.old.clock < 2 ^ 61 }
         requires base { self.old.base < 2 ^ 61 }
         requires short { list_any is_long (written_times event.now.time) ≡ false }
-        requires fits { is_packet_over packet.now ≡ false }
+        requires fits { is_packet_number_over_limit packet.now ≡ false }
         ensures ends { IfOk result (λ end. Ends (on_arrival self.old event.now (arrives self.old event.now packet.now)) end self.new) }
         ensures memory { OnErr result (self.new.host.end_reason ≡ Some OutOfMemory) }
     {
-        law_sender();
-        let moment = self.action_time(event);
+        law_sender_keeps_time_and_bounds_queueing();
+        let moment = self.action_time_not_before_clock(event);
         match arrive(&mut self.host, packet, moment) {
             Ok(()) => {}
             Err(ending) => return Ok(Some(StopKind::from_host_end(ending)?)),
@@ -114,9 +117,9 @@ impl RunState {
         ensures ends { IfOk result (λ end. Ends (on_answer self.old event.now call.now (answers self.old event.now call.now)) end self.new) }
         ensures memory { OnErr result (self.new.host.end_reason ≡ Some OutOfMemory) }
     {
-        law_sender();
-        let moment = self.action_time(event);
-        let call_answer = match call_answer(&mut self.host, call, moment) {
+        law_sender_keeps_time_and_bounds_queueing();
+        let moment = self.action_time_not_before_clock(event);
+        let call_answer = match advance_host_and_call(&mut self.host, call, moment) {
             Ok(call_answer) => call_answer,
             Err(ending) => return Ok(Some(StopKind::from_host_end(ending)?)),
         };
@@ -137,15 +140,18 @@ impl RunState {
         ensures ends { IfOk result (λ end. Ends (leaves self.old event.now packet.now) end self.new) }
         ensures memory { OnErr result (self.new.host.end_reason ≡ Some OutOfMemory) }
     {
-        match self.await_packet(event)? {
-            None => Ok(self.compare_and_take(event, packet)),
+        match self.perform_timely_expiry_if_none_unmatched(event)? {
+            None => Ok(self.take_oldest_packet_if_it_matches(event, packet)),
             end => Ok(end),
         }
     }
 
     /// Where no packet is unmatched, performs the next expiry that may send the expected one.
     #[inline(always)]
-    fn await_packet(&mut self, event: &Event) -> Result<Option<StopKind>, AllocError>
+    fn perform_timely_expiry_if_none_unmatched(
+        &mut self,
+        event: &Event,
+    ) -> Result<Option<StopKind>, AllocError>
         requires live { self.old.host.end_reason ≡ None }
         requires clock { self.old.clock < 2 ^ 61 }
         requires base { self.old.base < 2 ^ 61 }
@@ -160,13 +166,14 @@ impl RunState {
         let time_range = time_range_of(self.base, event.time);
         match self.host.deadline() {
             // One expiry is enough: each puts a packet out.
-            Some(at) if may_be_in_time(time_range, self.tolerance(), at) => self.perform_expiry(at),
+            Some(at) if is_not_too_late_within_tolerance(time_range, self.tolerance(), at) =>
+                self.perform_expiry_and_set_clock(at),
             _ => Ok(Some(StopKind::Missing)),
         }
     }
 
     /// Performs the next expiry, whose moment the clock becomes.
-    fn perform_expiry(&mut self, at: u64) -> Result<Option<StopKind>, AllocError>
+    fn perform_expiry_and_set_clock(&mut self, at: u64) -> Result<Option<StopKind>, AllocError>
         requires live { self.old.host.end_reason ≡ None }
         requires clock { self.old.clock < 2 ^ 61 }
         requires due { deadline_of self.old.host.state ≡ Some at }
@@ -174,7 +181,7 @@ impl RunState {
         ensures memory { OnErr result (self.new.host.end_reason ≡ Some OutOfMemory) }
         ensures base { self.new.base ≡ self.old.base }
     {
-        law_sender();
+        law_sender_keeps_time_and_bounds_queueing();
         match self.host.advance(at) {
             Ok(()) => {}
             Err(ending) => return Ok(Some(StopKind::from_host_end(ending)?)),
@@ -185,12 +192,16 @@ impl RunState {
 
     /// Compares the oldest packet, and takes it where it agrees.
     #[inline(always)]
-    fn compare_and_take(&mut self, event: &Event, packet: &Packet) -> Option<StopKind>
+    fn take_oldest_packet_if_it_matches(
+        &mut self,
+        event: &Event,
+        packet: &Packet,
+    ) -> Option<StopKind>
         requires base { self.old.base < 2 ^ 61 }
         requires short { list_any is_long (written_times event.now.time) ≡ false }
         ensures { Ends (packet_taken event.now packet.now self.old (slice_get self.old.host.state.endpoint.outbox 0)) result self.new }
     {
-        law_sender();
+        law_sender_keeps_time_and_bounds_queueing();
         let Some(sent) = self.host.outbox().get(0) else {
             return Some(StopKind::Missing);
         };
@@ -201,7 +212,7 @@ impl RunState {
         if let Some(kind) = check_packet(&expect, sent, self.tolerance()) {
             return Some(StopKind::Differs(kind));
         }
-        self.base = base_after(self.base, event.time, sent.at);
+        self.base = base_after_expected_packet(self.base, event.time, sent.at);
         let _ = self.host.take();
         None
     }

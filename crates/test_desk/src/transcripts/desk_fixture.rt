@@ -44,7 +44,7 @@ impl DeskFixture {
         }
         match self.texts.text(arguments.rest) {
             Ok(lines) => out.count("", lines.len() as u64, " lines"),
-            Err(fault) => out.push_str(fault.text()),
+            Err(fault) => out.push_str(fault.number_and_name()),
         }
     }
 

@@ -102,7 +102,7 @@ impl DeskTranscript {
 
     /// Keeps what a closing that failed gave back, and says its fault.
     fn keep(&mut self, fault: CloseFault<Desk>, out: &mut AnswerText) {
-        out.push_str(fault.text());
+        out.push_str(fault.number_and_name());
         match fault {
             CloseFault::MissingSeat(desk, seats) => {
                 self.desk = Some(desk);

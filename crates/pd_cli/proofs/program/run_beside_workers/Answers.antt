@@ -12,10 +12,10 @@ returns-in-Ok g c = λ report_options.
     let text = c.args.options.now.settings.now in
     let end = c.serve-end.result in
     let failed = g.R.InputStream.has_failed c.serve-end.new.reader in
-    quiet_end failed c.exit_after_serving.result (end_of end) c.args.options.now.workers report_options text input before after (g.E.Write.contents c.args.err.now) (g.E.Write.contents c.exit_after_serving.new.err)
-    c.exit_after_serving.ensures.status c.exit_after_serving.ensures.stderr (ran_beside failed c.args.options.now.workers c.in-Ok.settings (settings_in text) end input before after c.requires.some c.in-Ok.ensures.ok c.serve-end.ensures.serves c.serve-end.ensures.cause)
+    quiet_end failed c.print_any_fault_and_make_exit.result (end_of end) c.args.options.now.workers report_options text input before after (g.E.Write.contents c.args.err.now) (g.E.Write.contents c.print_any_fault_and_make_exit.new.err)
+    c.print_any_fault_and_make_exit.ensures.status c.print_any_fault_and_make_exit.ensures.stderr (ran_beside failed c.args.options.now.workers c.in-Ok.settings (settings_in text) end input before after c.requires.some c.in-Ok.ensures.ok c.serve-end.ensures.serves c.serve-end.ensures.cause)
 
 pub returns-in-Err : goal.returns-in-Err
 returns-in-Err g c = λ report_options.
-    settings_end (g.R.InputStream.has_failed c.args.reader.now) c.exit_with_fault.result c.in-Err.fault c.args.options.now.workers report_options c.args.options.now.settings.now (g.R.Read.remaining c.args.reader.now) (g.W.Write.contents c.args.out.now) (g.E.Write.contents c.args.err.now) (g.E.Write.contents c.exit_with_fault.new.err)
-    c.exit_with_fault.ensures.status c.exit_with_fault.ensures.stderr c.in-Err.ensures.err
+    settings_end (g.R.InputStream.has_failed c.args.reader.now) c.write_fault_and_return_fault_exit.result c.in-Err.fault c.args.options.now.workers report_options c.args.options.now.settings.now (g.R.Read.remaining c.args.reader.now) (g.W.Write.contents c.args.out.now) (g.E.Write.contents c.args.err.now) (g.E.Write.contents c.write_fault_and_return_fault_exit.new.err)
+    c.write_fault_and_return_fault_exit.ensures.status c.write_fault_and_return_fault_exit.ensures.stderr c.in-Err.ensures.err

@@ -15,7 +15,7 @@ use Rattle.pd_run.specs.StopReason.{verdict_at}
 use Rattle.pd_run.specs.declared.stop_point.StopPoint.{StopPoint}
 use Rattle.pd_explain.specs.Causes.{IsCauseOf}
 use Rattle.pd_explain.specs.Explained.{HasHistory, IsCauseIn}
-use Rattle.pd_explain.specs.Parts.{event_place}
+use Rattle.pd_explain.specs.Parts.{place_of_event_after_passed}
 use Rattle.pd_explain.proofs.StopIsThere.{StopsWithin, stops_within, causes_in}
 use Rattle.pd_explain.proofs.DroppedLemmas.{staged_stop}
 use Rattle.pd_explain.proofs.explain_verdict.cause_of_traced_stop.Goals as goal
@@ -26,7 +26,7 @@ at-parsed_event-requires c =
     let parsed : Parsed = script_part reading in
     let settings : Settings = c.args.settings.now in
     let stop : StopPoint = c.args.traced.now.stop in
-    let script : parsed ≡ script_of c.args.lines.now = ap script_part c.requires.reading ∙ c.law_readings.ensures c.args.lines.now in
+    let script : parsed ≡ script_of c.args.lines.now = ap script_part c.requires.reading ∙ c.law_readings_are_scripts.ensures c.args.lines.now in
     let lined : line_of (verdict_in settings parsed) ≡ Some c.args._line =
     subst (λ (p : Parsed). line_of (verdict_in settings p) ≡ Some c.args._line) (sym script) (ap line_of (sym c.requires.verdict) ∙ c.requires.line) in
     let there : StopsWithin c.args._line settings parsed stop =
@@ -41,7 +41,7 @@ returns c =
     let parsed : Parsed = script_part reading in
     let settings : Settings = c.args.settings.now in
     let stop : StopPoint = c.args.traced.now.stop in
-    let script : parsed ≡ script_of c.args.lines.now = ap script_part c.requires.reading ∙ c.law_readings.ensures c.args.lines.now in
+    let script : parsed ≡ script_of c.args.lines.now = ap script_part c.requires.reading ∙ c.law_readings_are_scripts.ensures c.args.lines.now in
     let lined : line_of (verdict_in settings parsed) ≡ Some c.args._line =
     subst (λ (p : Parsed). line_of (verdict_in settings p) ≡ Some c.args._line) (sym script) (ap line_of (sym c.requires.verdict) ∙ c.requires.line) in
     let there : StopsWithin c.args._line settings parsed stop =
@@ -54,19 +54,19 @@ returns c =
     (subst (λ (ds : List ParsedEvent). c.at-parsed_event.result.now ≡ get_or ds stop.passed c.at-parsed_event.result.now) c.events.ensures.value c.at-parsed_event.ensures) in
     let event : slice_get parsed.events stop.passed ≡ Some c.at-parsed_event.result.now.event =
     slice_get-map (λ (d : ParsedEvent). d.event) reading.events stop.passed ∙ ap (λ o. option_map (λ (d : ParsedEvent). d.event) o) item in
-    let place : c.event_place-place.result ≡ event_place (reading_of c.args.lines.now) stop.passed =
-    c.event_place-place.ensures ∙ ap (λ (r : ReadingView). event_place r stop.passed) c.requires.reading in
+    let place : c.place_of_event_after_passed-place.result ≡ place_of_event_after_passed (reading_of c.args.lines.now) stop.passed =
+    c.place_of_event_after_passed-place.ensures ∙ ap (λ (r : ReadingView). place_of_event_after_passed r stop.passed) c.requires.reading in
     subst (λ (p : Parsed). IfOk c.cause_with_origins_and_dropped.result (IsCauseIn c.args.lines.now c.args._line settings p c.args._verdict)) script
     (causes_in c.args.lines.now settings parsed c.args._line c.args._verdict stop c.at-parsed_event.result.now.event c.cause_with_origins_and_dropped.result c.requires.header
     (record { found = c.requires.stop; event = event; gives = gives })
     (subst (λ (p : Place). IfOk c.cause_with_origins_and_dropped.result (λ cause. IsCauseOf c.args.lines.now p c.at-parsed_event.result.now.event stop cause × HasHistory settings parsed stop cause)) place c.cause_with_origins_and_dropped.ensures))
 
-pub dropped_before_stop-requires-clause-reached : goal.dropped_before_stop-requires-clause-reached
-dropped_before_stop-requires-clause-reached c =
+pub last_dropped_segments_if_packet_stop-requires-clause-reached : goal.last_dropped_segments_if_packet_stop-requires-clause-reached
+last_dropped_segments_if_packet_stop-requires-clause-reached c =
     let parsed : Parsed = script_part c.args.reading.now in
     let settings : Settings = c.args.settings.now in
     let stop : StopPoint = c.args.traced.now.stop in
-    let script : parsed ≡ script_of c.args.lines.now = ap script_part c.requires.reading ∙ c.law_readings.ensures c.args.lines.now in
+    let script : parsed ≡ script_of c.args.lines.now = ap script_part c.requires.reading ∙ c.law_readings_are_scripts.ensures c.args.lines.now in
     let lined : line_of (verdict_in settings parsed) ≡ Some c.args._line =
     subst (λ (p : Parsed). line_of (verdict_in settings p) ≡ Some c.args._line) (sym script) (ap line_of (sym c.requires.verdict) ∙ c.requires.line) in
     let there : StopsWithin c.args._line settings parsed stop =

@@ -6,4 +6,4 @@ use Rattle.pd_explain.proofs.origins.count_unmatched_after_expiries.Goals as goa
 pub returns : goal.returns
 returns c = λ bar awaited.
     c.count_unmatched-before.ensures
-    ∙ not_due c.args.run.now c.args.event.now c.action_time-moment.result awaited c.action_time-moment.ensures.acts (sym c.has_expiry_by.ensures ∙ c.if-has_expiry_by.false)
+    ∙ not_due c.args.run.now c.args.event.now c.action_time_not_before_clock-moment.result awaited c.action_time_not_before_clock-moment.ensures.acts (sym c.has_expiry_by.ensures ∙ c.if-has_expiry_by.false)

@@ -7,7 +7,7 @@ use Rattle.pd_reparse.specs.Reading.{script_part}
 use Rattle.pd_reparse.specs.declared.parsed_event.ParsedEvent.{ParsedEvent}
 use Rattle.pd_run.specs.Laws.{IsUnderway, unmatched}
 use Rattle.pd_run.specs.Step.{RunStateView, step, IsStepEnd}
-use Rattle.pd_run.specs.StopPoints.{stop_reason_if_on_line, stop_from}
+use Rattle.pd_run.specs.StopPoints.{preview_stop_reason_if_on_line, stop_from}
 use Rattle.pd_seg.specs.declared.segments.Sent.{Sent}
 use Rattle.pd_explain.specs.Failures.{sender_at}
 use Rattle.pd_explain.specs.Inner.{IsResumed, AreTriggers}
@@ -38,25 +38,25 @@ loop-passed-preserved c =
     let run : RunStateView = c.loop-passed.run in
     let event : Event = c.at.result.now.event in
     let underway : IsUnderway c.loop-passed.passed run = c.loop-passed.invariant.underway in
-    let reported : step run event ≡ Ok c.step_with_triggers.new.run =
-    subst (λ end. IsStepEnd (step run event) end c.step_with_triggers.new.run) c.in-Go.is c.in_ok-step_with_triggers.ensures.ends in
+    let reported : step run event ≡ Ok c.step_and_note_packet_triggers.new.run =
+    subst (λ end. IsStepEnd (step run event) end c.step_and_note_packet_triggers.new.run) c.in-Go.is c.in_ok-step_and_note_packet_triggers.ensures.ends in
     let read : List ParsedEvent = c.events-events.result.now in
     let found : slice_get parsed.events c.loop-passed.passed ≡ Some event =
     subst (λ (ds : List ParsedEvent). slice_get (map (λ (d : ParsedEvent). d.event) ds) c.loop-passed.passed ≡ Some event) c.events-events.ensures.value
     (event_at read c.loop-passed.passed c.at.result.now (omega (arith, c.loop-passed-test.true, c.len-passed-end.ensures)) c.at.ensures) in
     let split : drop c.loop-passed.passed parsed.events ≡ event ∷ drop (c.loop-passed.passed + 1) parsed.events = left_from parsed.events c.loop-passed.passed event found in
     let later : stop_from c.args.line c.loop-passed.passed (drop c.loop-passed.passed parsed.events) run
-    ≡ stop_from c.args.line (c.loop-passed.passed + 1) (drop (c.loop-passed.passed + 1) parsed.events) c.step_with_triggers.new.run =
+    ≡ stop_from c.args.line (c.loop-passed.passed + 1) (drop (c.loop-passed.passed + 1) parsed.events) c.step_and_note_packet_triggers.new.run =
     ap (λ (es : List Event). stop_from c.args.line c.loop-passed.passed es run) split
-    ∙ stops_later c.law_verdicts_have_reasons.ensures.reasons c.args.line c.loop-passed.passed (drop (c.loop-passed.passed + 1) parsed.events) run c.step_with_triggers.new.run event reported in
+    ∙ stops_later c.law_verdicts_have_reasons.ensures.reasons c.args.line c.loop-passed.passed (drop (c.loop-passed.passed + 1) parsed.events) run c.step_and_note_packet_triggers.new.run event reported in
     record {
-      underway = c.law_runs_are_bounded.ensures.step c.loop-passed.passed run c.step_with_triggers.new.run event underway reported;
-      counted = omega (arith, c.in_ok-step_with_triggers.ensures.one_more, c.loop-passed.invariant.counted);
+      underway = c.law_runs_stay_in_step_bounds.ensures.step c.loop-passed.passed run c.step_and_note_packet_triggers.new.run event underway reported;
+      counted = omega (arith, c.in_ok-step_and_note_packet_triggers.ensures.one_more, c.loop-passed.invariant.counted);
       stop = sym later ∙ c.loop-passed.invariant.stop;
-      stage = staged settings parsed c.loop-passed.passed run c.step_with_triggers.new.run event c.loop-passed.invariant.stage found reported;
-      triggers = subst (λ triggers. AreTriggers settings parsed (taken_by (take c.args.resumed.passed parsed.events) + length (unmatched c.args.resumed.run)) (c.loop-passed.passed + 1) (length (unmatched c.step_with_triggers.new.run)) triggers)
-          (sym (c.in_ok-step_with_triggers.ensures.noted c.in-Go.is))
-          (noted_step settings parsed c.loop-passed.passed run event c.law_packets_append.ensures c.step_with_triggers.new.run c.loop-passed.invariant.stage found reported
+      stage = staged settings parsed c.loop-passed.passed run c.step_and_note_packet_triggers.new.run event c.loop-passed.invariant.stage found reported;
+      triggers = subst (λ triggers. AreTriggers settings parsed (taken_by (take c.args.resumed.passed parsed.events) + length (unmatched c.args.resumed.run)) (c.loop-passed.passed + 1) (length (unmatched c.step_and_note_packet_triggers.new.run)) triggers)
+          (sym (c.in_ok-step_and_note_packet_triggers.ensures.noted c.in-Go.is))
+          (noted_step settings parsed c.loop-passed.passed run event c.law_outbox_is_first_in_first_out.ensures c.step_and_note_packet_triggers.new.run c.loop-passed.invariant.stage found reported
           (taken_by (take c.args.resumed.passed parsed.events) + length (unmatched c.args.resumed.run)) c.loop-passed.triggers.items c.loop-passed.invariant.triggers);
     }
 
@@ -70,7 +70,7 @@ returns-in-Some-clause-stop c =
     subst (λ (ds : List ParsedEvent). slice_get (map (λ (d : ParsedEvent). d.event) ds) c.loop-passed.passed ≡ Some event) c.events-events.ensures.value
     (event_at c.events-events.result.now c.loop-passed.passed c.at.result.now (omega (arith, c.loop-passed-test.true, c.len-passed-end.ensures)) c.at.ensures) in
     let split : drop c.loop-passed.passed parsed.events ≡ event ∷ drop (c.loop-passed.passed + 1) parsed.events = left_from parsed.events c.loop-passed.passed event found in
-    let reason : stop_reason_if_on_line c.args.line run event ≡ Some c.in-Some.stop_reason = sym c.in_ok-stop_reason.ensures ∙ c.in-Some.is in
+    let reason : preview_stop_reason_if_on_line c.args.line run event ≡ Some c.in-Some.stop_reason = sym c.in_ok-stop_reason.ensures ∙ c.in-Some.is in
     sym (stops_here c.args.line c.loop-passed.passed (drop c.loop-passed.passed parsed.events) (drop (c.loop-passed.passed + 1) parsed.events) run event c.in-Some.stop_reason split reason)
     ∙ c.loop-passed.invariant.stop
 
@@ -83,12 +83,12 @@ returns-in-Some-clause-triggers c =
     let found : slice_get parsed.events c.loop-passed.passed ≡ Some event =
     subst (λ (ds : List ParsedEvent). slice_get (map (λ (d : ParsedEvent). d.event) ds) c.loop-passed.passed ≡ Some event) c.events-events.ensures.value
     (event_at c.events-events.result.now c.loop-passed.passed c.at.result.now (omega (arith, c.loop-passed-test.true, c.len-passed-end.ensures)) c.at.ensures) in
-    let reason : stop_reason_if_on_line c.args.line run event ≡ Some c.in-Some.stop_reason = sym c.in_ok-stop_reason.ensures ∙ c.in-Some.is in
+    let reason : preview_stop_reason_if_on_line c.args.line run event ≡ Some c.in-Some.stop_reason = sym c.in_ok-stop_reason.ensures ∙ c.in-Some.is in
     let first : ℕ = taken_by (take c.args.resumed.passed parsed.events) + length (unmatched c.args.resumed.run) in
-    let known : AreTriggers settings parsed first c.loop-passed.passed (length (sender_at run c.in-Some.stop_reason).state.endpoint.outbox) c.note_stop_triggers.new.triggers.items =
+    let known : AreTriggers settings parsed first c.loop-passed.passed (length (sender_at run c.in-Some.stop_reason).state.endpoint.outbox) c.note_triggers_if_stop_compared.new.triggers.items =
     subst (λ triggers. AreTriggers settings parsed first c.loop-passed.passed (length (sender_at run c.in-Some.stop_reason).state.endpoint.outbox) triggers)
-    (sym c.in_ok-note_stop_triggers.ensures)
-    (noted_stop settings parsed c.loop-passed.passed run event c.law_packets_append.ensures c.loop-passed.invariant.stage found first c.in-Some.stop_reason
+    (sym c.in_ok-note_triggers_if_stop_compared.ensures)
+    (noted_stop settings parsed c.loop-passed.passed run event c.law_outbox_is_first_in_first_out.ensures c.loop-passed.invariant.stage found first c.in-Some.stop_reason
     c.loop-passed.triggers.items (reason_is c.args.line run event c.in-Some.stop_reason reason) c.loop-passed.invariant.triggers) in
     (first, known)
 
@@ -101,16 +101,16 @@ returns-in-Some-clause-whole c = λ fresh none.
     let found : slice_get parsed.events c.loop-passed.passed ≡ Some event =
     subst (λ (ds : List ParsedEvent). slice_get (map (λ (d : ParsedEvent). d.event) ds) c.loop-passed.passed ≡ Some event) c.events-events.ensures.value
     (event_at c.events-events.result.now c.loop-passed.passed c.at.result.now (omega (arith, c.loop-passed-test.true, c.len-passed-end.ensures)) c.at.ensures) in
-    let reason : stop_reason_if_on_line c.args.line run event ≡ Some c.in-Some.stop_reason = sym c.in_ok-stop_reason.ensures ∙ c.in-Some.is in
+    let reason : preview_stop_reason_if_on_line c.args.line run event ≡ Some c.in-Some.stop_reason = sym c.in_ok-stop_reason.ensures ∙ c.in-Some.is in
     let first : ℕ = taken_by (take c.args.resumed.passed parsed.events) + length (unmatched c.args.resumed.run) in
-    let known : AreTriggers settings parsed first c.loop-passed.passed (length (sender_at run c.in-Some.stop_reason).state.endpoint.outbox) c.note_stop_triggers.new.triggers.items =
+    let known : AreTriggers settings parsed first c.loop-passed.passed (length (sender_at run c.in-Some.stop_reason).state.endpoint.outbox) c.note_triggers_if_stop_compared.new.triggers.items =
     subst (λ triggers. AreTriggers settings parsed first c.loop-passed.passed (length (sender_at run c.in-Some.stop_reason).state.endpoint.outbox) triggers)
-    (sym c.in_ok-note_stop_triggers.ensures)
-    (noted_stop settings parsed c.loop-passed.passed run event c.law_packets_append.ensures c.loop-passed.invariant.stage found first c.in-Some.stop_reason
+    (sym c.in_ok-note_triggers_if_stop_compared.ensures)
+    (noted_stop settings parsed c.loop-passed.passed run event c.law_outbox_is_first_in_first_out.ensures c.loop-passed.invariant.stage found first c.in-Some.stop_reason
     c.loop-passed.triggers.items (reason_is c.args.line run event c.in-Some.stop_reason reason) c.loop-passed.invariant.triggers) in
     let zero : first ≡ 0 = ap₂ (λ (k : ℕ) (packets : List Sent). taken_by (take k parsed.events) + length packets) none fresh in
-    all_known settings parsed c.loop-passed.passed (length (sender_at run c.in-Some.stop_reason).state.endpoint.outbox) c.note_stop_triggers.new.triggers.items
-    (subst (λ (n : ℕ). AreTriggers settings parsed n c.loop-passed.passed (length (sender_at run c.in-Some.stop_reason).state.endpoint.outbox) c.note_stop_triggers.new.triggers.items) zero known)
+    all_known settings parsed c.loop-passed.passed (length (sender_at run c.in-Some.stop_reason).state.endpoint.outbox) c.note_triggers_if_stop_compared.new.triggers.items
+    (subst (λ (n : ℕ). AreTriggers settings parsed n c.loop-passed.passed (length (sender_at run c.in-Some.stop_reason).state.endpoint.outbox) c.note_triggers_if_stop_compared.new.triggers.items) zero known)
 
 pub returns-in-Stop-clause-stop : goal.returns-in-Stop-clause-stop
 returns-in-Stop-clause-stop c =
@@ -122,8 +122,8 @@ returns-in-Stop-clause-stop c =
     subst (λ (ds : List ParsedEvent). slice_get (map (λ (d : ParsedEvent). d.event) ds) c.loop-passed.passed ≡ Some event) c.events-events.ensures.value
     (event_at c.events-events.result.now c.loop-passed.passed c.at.result.now (omega (arith, c.loop-passed-test.true, c.len-passed-end.ensures)) c.at.ensures) in
     let split : drop c.loop-passed.passed parsed.events ≡ event ∷ drop (c.loop-passed.passed + 1) parsed.events = left_from parsed.events c.loop-passed.passed event found in
-    let none : stop_reason_if_on_line c.args.line run event ≡ None = sym c.in_ok-stop_reason.ensures ∙ c.in_default.is in
+    let none : preview_stop_reason_if_on_line c.args.line run event ≡ None = sym c.in_ok-stop_reason.ensures ∙ c.in_default.is in
     let stops : step run event ≡ Err c.in-Stop.field-0 =
-    subst (λ end. IsStepEnd (step run event) end c.step_with_triggers.new.run) c.in-Stop.is c.in_ok-step_with_triggers.ensures.ends in
+    subst (λ end. IsStepEnd (step run event) end c.step_and_note_packet_triggers.new.run) c.in-Stop.is c.in_ok-step_and_note_packet_triggers.ensures.ends in
     sym (stops_elsewhere c.args.line c.loop-passed.passed (drop c.loop-passed.passed parsed.events) (drop (c.loop-passed.passed + 1) parsed.events) run event c.in-Stop.field-0 split none stops)
     ∙ c.loop-passed.invariant.stop

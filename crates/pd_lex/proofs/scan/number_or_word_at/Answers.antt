@@ -12,13 +12,13 @@ returns-then-f-gt0-clause-piece c =
     let f : c.fraction_len-f.result ≡ fraction_len (drop (prefix_len is_digit c.args.s.now) c.args.s.now) = cc in
     rw (c.digits_len-digits.ensures.len, f) (decimal_is c.args.s.now (omega (arith, f, c.if-f-gt0.true)))
 
-pub returns-then-starts_with_word-clause-piece : goal.returns-then-starts_with_word-clause-piece
-returns-then-starts_with_word-clause-piece c =
+pub returns-then-starts_with_word_octet-clause-piece : goal.returns-then-starts_with_word_octet-clause-piece
+returns-then-starts_with_word_octet-clause-piece c =
     let w : nat_lt 0 (prefix_len is_word (drop (prefix_len is_digit c.args.s.now) c.args.s.now)) ≡ true = cc in
     c.hex_or_word_at.ensures.piece ∙ run_is c.args.s.now (positive (prefix_len is_word (drop (prefix_len is_digit c.args.s.now) c.args.s.now)) w)
 
-pub returns-else-starts_with_word-clause-piece : goal.returns-else-starts_with_word-clause-piece
-returns-else-starts_with_word-clause-piece c =
+pub returns-else-starts_with_word_octet-clause-piece : goal.returns-else-starts_with_word_octet-clause-piece
+returns-else-starts_with_word_octet-clause-piece c =
     let f : c.fraction_len-f.result ≡ fraction_len (drop (prefix_len is_digit c.args.s.now) c.args.s.now) = cc in
     let w : nat_lt 0 (prefix_len is_word (drop (prefix_len is_digit c.args.s.now) c.args.s.now)) ≡ false = cc in
     rw c.digits_len-digits.ensures.len (int_is c.args.s.now (omega (arith, f, c.if-f-gt0.false)) (none_goes_on (prefix_len is_word (drop (prefix_len is_digit c.args.s.now) c.args.s.now)) w))

@@ -12,7 +12,7 @@ returns-in-Whole c =
 
 pub returns-in-Some : goal.returns-in-Some
 returns-in-Some c =
-    step_closed c.args.lines.now c.args.place c.requires.place c.requires.line c.args.rest.now c.in-Open.opener c.requires.rest_is c.in-Open.ensures.piece c.requires.some c.in-Open.ensures.within c.in-Some.after (rw c.len.ensures at c.in-Some.ensures) c.step_over_closed.result c.step_over_closed.ensures
+    step_closed c.args.lines.now c.args.place c.requires.place c.requires.line c.args.rest.now c.in-Open.opener c.requires.rest_is c.in-Open.ensures.piece c.requires.some c.in-Open.ensures.within c.in-Some.after (rw c.len.ensures at c.in-Some.ensures) c.gap_or_token_of_closed_piece.result c.gap_or_token_of_closed_piece.ensures
 
 pub returns-in-None : goal.returns-in-None
 returns-in-None c =

@@ -1,5 +1,5 @@
 use Rattle.std.proofs.Common.{codes, ap, refl, List, ℕ, Bor, ◌∙◌}
-use Rattle.pd_protocol.specs.OptionTable.{pdregress, worker_count_in, cache_size_in}
+use Rattle.pd_protocol.specs.OptionTable.{pdregress, worker_count_or_zero, cache_size_in_range_or_64}
 use Rattle.pd_protocol.proofs.SettingsText.{simple_pdregress, chosen_text}
 use Rattle.pd_protocol.proofs.parse_options.chosen_options.Goals as goal
 
@@ -10,8 +10,8 @@ returns-clause-chosen_options c = λ words matched.
     let workers = ap (λ (b : Bor (List ℕ)). b.now) c.unwrap_or-2.ensures ∙ text (codes "workers") c.get_str-2.result _ c.get_str-2.ensures refl in
     let cache = ap (λ (b : Bor (List ℕ)). b.now) c.unwrap_or-3.ensures ∙ text (codes "cache") c.get_str-3.result _ c.get_str-3.ensures refl in (
       settings,
-      c.worker_count_in.ensures.count ∙ ap worker_count_in (c.as_bytes.ensures.value ∙ workers),
-      c.cache_size_in.ensures.size ∙ ap cache_size_in (c.as_bytes-2.ensures.value ∙ cache),
+      c.worker_count_or_zero.ensures.count ∙ ap worker_count_or_zero (c.as_bytes.ensures.value ∙ workers),
+      c.cache_size_in_range_or_64.ensures.size ∙ ap cache_size_in_range_or_64 (c.as_bytes-2.ensures.value ∙ cache),
       rw (c.has_flag.ensures words matched, c.in_ok-explain.ensures.only words matched) refl,
       c.in_ok-explain.ensures.how words matched,
     )

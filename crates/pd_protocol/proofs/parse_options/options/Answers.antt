@@ -37,11 +37,11 @@ returns-in_err-matches g c =
       refused = passed_on (λ (e : Error). (kind_of e ≡ OutOfMemory) ⊎ (refusals words ≢ [])) r error i (alone_too pdregress (are_in_conflict words) (lack_explain words) words (kind_of error ≡ OutOfMemory) alone);
     }
 
-pub returns-then-are_options_conflicting : goal.returns-then-are_options_conflicting
-returns-then-are_options_conflicting g c =
+pub returns-then-are_options_conflicting_or_lacking_explain : goal.returns-then-are_options_conflicting_or_lacking_explain
+returns-then-are_options_conflicting_or_lacking_explain g c =
     let words = map g.S.AsStr.text c.args.words.now in
     let matched = subst (λ (a : App). HasMatchesOf a words c.in_ok-matches.matches) c.in_ok-command.ensures.words c.in_ok-matches.ensures.matches in
-    let together : (are_in_conflict words || lack_explain words) ≡ true = sym (c.are_options_conflicting.ensures words matched) ∙ c.if-are_options_conflicting.true in record {
+    let together : (are_in_conflict words || lack_explain words) ≡ true = sym (c.are_options_conflicting_or_lacking_explain.ensures words matched) ∙ c.if-are_options_conflicting_or_lacking_explain.true in record {
       chosen_options = tt;
       few = tt;
       some = tt;
@@ -55,7 +55,7 @@ returns g c =
     let words = map g.S.AsStr.text c.args.words.now in
     let free = subst (λ (a : App). is_simple_and_free a ≡ true) (sym c.in_ok-command.ensures.words) free_pdregress in
     let matched = subst (λ (a : App). HasMatchesOf a words c.in_ok-matches.matches) c.in_ok-command.ensures.words c.in_ok-matches.ensures.matches in
-    let apart : (are_in_conflict words || lack_explain words) ≡ false = sym (c.are_options_conflicting.ensures words matched) ∙ c.if-are_options_conflicting.false in record {
+    let apart : (are_in_conflict words || lack_explain words) ≡ false = sym (c.are_options_conflicting_or_lacking_explain.ensures words matched) ∙ c.if-are_options_conflicting_or_lacking_explain.false in record {
       chosen_options = c.in_ok-chosen_options.ensures.chosen_options words matched;
       few = c.in_ok-chosen_options.ensures.few;
       some = c.in_ok-chosen_options.ensures.some;

@@ -9,7 +9,7 @@ use Rattle.pd_reparse.proofs.reparse.read_remaining_events.Goals as goal
 pub returns-in-Stops : goal.returns-in-Stops
 returns-in-Stops c =
     let front = c.args.front in
-    let step = rw c.in-Stops.is at c.in_ok-read_next_event.ensures in
+    let step = rw c.in-Stops.is at c.in_ok-read_parsed_event_into_or_stop.ensures in
     let found = none_more front (4096 - length front) (items c.args.lines.now c.args.place) c.events.events c.events.i c.events.reader c.in-Stops.fault c.events.invariant.1 (omega arith) step in
     c.in_ok-new-in-Stops.ensures ∙ ap (λ (h : HeaderView). record { header = h; events = c.events.events; fault = c.in-Stops.fault }) c.events.invariant.0 ∙ ap (λ (f : ParsedEventsAndFault). record { header = c.args.header; events = f.events; fault = f.fault }) found
 

@@ -7,5 +7,5 @@ pub returns : goal.returns
 returns c = record {
   reasons = reasons_give_verdicts;
   verdicts = verdicts_have_reasons reasons_give_verdicts;
-  packets = differences_are_first c.law_comparisons.ensures.packets;
+  packets = differences_are_first c.law_first_mismatch_of_packets_and_calls.ensures.packets;
 }

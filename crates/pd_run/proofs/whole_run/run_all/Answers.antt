@@ -8,4 +8,4 @@ so P is (Ok v) e h = subst P (sym e) h
 so P is (Err x) e h = tt
 
 pub returns-clause-grammar : goal.returns-clause-grammar
-returns-clause-grammar c = so _ _ c.run_with_stepper.result c.run_with_stepper.ensures.verdict (c.law_verdicts_are_grammatical.ensures.given c.args.lines.now c.args.settings.now)
+returns-clause-grammar c = so _ _ c.run_with_stepper.result c.run_with_stepper.ensures.verdict (c.law_verdicts_are_of_grammar_scripts.ensures.given c.args.lines.now c.args.settings.now)

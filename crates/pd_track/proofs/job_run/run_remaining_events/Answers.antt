@@ -14,8 +14,8 @@ came g c =
     let rest : events_after c.args.progress.passed c.events.result.now ≡ drop c.args.progress.passed (script_events c.args.job.now.task.text) =
     drop_map c.args.progress.passed c.events.result.now
     ∙ (ap (λ ds. drop c.args.progress.passed (events_of ds)) (c.events.ensures.value ∙ ap (λ (r : ReadingView). r.events) c.requires.reading)
-    ∙ ap (λ (p : Parsed). drop c.args.progress.passed p.events) (c.law_readings.ensures c.args.job.now.task.text)) in
-    whole c.law_runs_only_use.ensures.notes c.args.job.now c.args.reading c.args.progress.passed c.args.progress.state c.args.progress.checkpoints c.in_ok-finished_run.finished_run.checkpoints
+    ∙ ap (λ (p : Parsed). drop c.args.progress.passed p.events) (c.law_readings_are_scripts.ensures c.args.job.now.task.text)) in
+    whole c.law_runs_use_only_consulted_settings.ensures.notes c.args.job.now c.args.reading c.args.progress.passed c.args.progress.state c.args.progress.checkpoints c.in_ok-finished_run.finished_run.checkpoints
     (events_after c.args.progress.passed c.events.result.now) c.in_ok-finished_run.finished_run.verdict (stepped_from (events_after c.args.progress.passed c.events.result.now) c.args.progress.state)
     c.requires.reading rest c.requires.passed c.requires.resumes c.in_ok-finished_run.ensures.verdict c.in_ok-finished_run.ensures.checkpoints refl
 

@@ -10,5 +10,5 @@ returns-then-not-try_write-clause-stderr g c =
 
 pub returns-clause-stderr : goal.returns-clause-stderr
 returns-clause-stderr g c =
-    says_then c.exit_with_fault.result.stderr_ok (g.E.Write.contents c.args.err.now) (g.E.Write.contents c.try_write.new.err) (g.E.Write.contents c.exit_with_fault.new.err) (codes "pdrecord: ") (fault_line c.args.stop.name.now (Serving c.args.stop.fault))
-    (rw c.if-not-try_write.false at c.try_write.ensures) c.exit_with_fault.ensures.stderr
+    says_then c.write_fault_and_return_fault_exit.result.stderr_ok (g.E.Write.contents c.args.err.now) (g.E.Write.contents c.try_write.new.err) (g.E.Write.contents c.write_fault_and_return_fault_exit.new.err) (codes "pdrecord: ") (fault_line c.args.stop.name.now (Serving c.args.stop.fault))
+    (rw c.if-not-try_write.false at c.try_write.ensures) c.write_fault_and_return_fault_exit.ensures.stderr

@@ -16,6 +16,6 @@ returns c =
     let i = c.self.inside in
     let first : c.max-first.result ≡ max i.una (c.args.x + 1) = omega arith in
     c.shows_loss.ensures
-    ∙ (λ k. shows_loss i.smss (c.count_sacked_from.ensures.runs k) (c.count_sacked_from.ensures.octets k))
+    ∙ (λ k. shows_loss i.smss (c.count_sacked_octets_and_runs_from.ensures.runs k) (c.count_sacked_octets_and_runs_from.ensures.octets k))
     ∙ sym (lost_is (in_ranges i.ranges) (the_view i) refl c.args.x c.max-first.result (omega arith) first)
     ∙ ap (is_lost c.args.x) c.self.view_is

@@ -10,22 +10,22 @@ use Rattle.pd_board.proofs.board.Board.rescue.Goals as goal
 pub returns-then-end-self : goal.returns-then-end-self
 returns-then-end-self c =
     let i = c.self.inside in
-    sym (no_rescue (in_ranges i.ranges) (the_view i) refl (omega arith) (λ k l u. c.after_last_unsacked-end.ensures.after k (omega arith) u)) ∙ ap rescue c.self.view_is
+    sym (no_rescue (in_ranges i.ranges) (the_view i) refl (omega arith) (λ k l u. c.after_last_unsacked_within_or_start-end.ensures.after k (omega arith) u)) ∙ ap rescue c.self.view_is
 
 pub returns : goal.returns
 returns c =
     let i = c.self.inside in
-    let end = c.after_last_unsacked-end.result in
+    let end = c.after_last_unsacked_within_or_start-end.result in
     let some : i.una < end = omega arith in
     let last : end ≡ end - 1 + 1 = omega arith in
-    sym (rescue_is (in_ranges i.ranges) (the_view i) refl (end - 1) c.max-low.result c.after_last_sacked-start.result (omega arith) (omega arith)
-    (λ k l u. c.after_last_unsacked-end.ensures.after k (omega arith) u) (c.after_last_unsacked-end.ensures.found some)
-    (omega arith) c.after_last_sacked-start.ensures.low c.after_last_sacked-start.ensures.high c.after_last_sacked-start.ensures.after c.after_last_sacked-start.ensures.found
-    ∙ ap (λ (n : ℕ). Some record { start = c.after_last_sacked-start.result; end = n }) (sym last))
+    sym (rescue_is (in_ranges i.ranges) (the_view i) refl (end - 1) c.max-low.result c.after_last_sacked_within_or_start-start.result (omega arith) (omega arith)
+    (λ k l u. c.after_last_unsacked_within_or_start-end.ensures.after k (omega arith) u) (c.after_last_unsacked_within_or_start-end.ensures.found some)
+    (omega arith) c.after_last_sacked_within_or_start-start.ensures.low c.after_last_sacked_within_or_start-start.ensures.high c.after_last_sacked_within_or_start-start.ensures.after c.after_last_sacked_within_or_start-start.ensures.found
+    ∙ ap (λ (n : ℕ). Some record { start = c.after_last_sacked_within_or_start-start.result; end = n }) (sym last))
     ∙ ap rescue c.self.view_is
 
-pub after_last_unsacked-end-requires-clause-ranges : goal.after_last_unsacked-end-requires-clause-ranges
-after_last_unsacked-end-requires-clause-ranges c = wider c.self.inside.una (c.self.inside.top + 1) (2 ^ 31) c.self.inside.ranges (omega arith) c.self.invariant.ranges
+pub after_last_unsacked_within_or_start-end-requires-clause-ranges : goal.after_last_unsacked_within_or_start-end-requires-clause-ranges
+after_last_unsacked_within_or_start-end-requires-clause-ranges c = wider c.self.inside.una (c.self.inside.top + 1) (2 ^ 31) c.self.inside.ranges (omega arith) c.self.invariant.ranges
 
-pub after_last_sacked-start-requires-clause-ranges : goal.after_last_sacked-start-requires-clause-ranges
-after_last_sacked-start-requires-clause-ranges c = wider c.self.inside.una (c.self.inside.top + 1) (2 ^ 31) c.self.inside.ranges (omega arith) c.self.invariant.ranges
+pub after_last_sacked_within_or_start-start-requires-clause-ranges : goal.after_last_sacked_within_or_start-start-requires-clause-ranges
+after_last_sacked_within_or_start-start-requires-clause-ranges c = wider c.self.inside.una (c.self.inside.top + 1) (2 ^ 31) c.self.inside.ranges (omega arith) c.self.invariant.ranges

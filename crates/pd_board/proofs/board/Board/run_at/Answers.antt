@@ -12,9 +12,9 @@ returns c =
     let i = c.self.inside in
     let una : i.una ≡ c.args.self.now.una = ap (λ s. s.una) c.self.view_is in
     let most : c.min-most.result ≡ min (c.args.x + i.smss) i.top = omega arith in
-    run_is (in_ranges i.ranges) (the_view i) refl c.args.x c.min-most.result c.first_sacked.result (omega arith) most
-    c.first_sacked.ensures.low c.first_sacked.ensures.high c.first_sacked.ensures.before c.first_sacked.ensures.found
+    run_is (in_ranges i.ranges) (the_view i) refl c.args.x c.min-most.result c.first_sacked_within_or_end.result (omega arith) most
+    c.first_sacked_within_or_end.ensures.low c.first_sacked_within_or_end.ensures.high c.first_sacked_within_or_end.ensures.before c.first_sacked_within_or_end.ensures.found
     ∙ ap (run_at c.args.x) c.self.view_is
 
-pub first_sacked-requires-clause-ranges : goal.first_sacked-requires-clause-ranges
-first_sacked-requires-clause-ranges c = wider c.self.inside.una (c.self.inside.top + 1) (2 ^ 31) c.self.inside.ranges (omega arith) c.self.invariant.ranges
+pub first_sacked_within_or_end-requires-clause-ranges : goal.first_sacked_within_or_end-requires-clause-ranges
+first_sacked_within_or_end-requires-clause-ranges c = wider c.self.inside.una (c.self.inside.top + 1) (2 ^ 31) c.self.inside.ranges (omega arith) c.self.invariant.ranges

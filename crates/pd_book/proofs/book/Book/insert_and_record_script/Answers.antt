@@ -4,7 +4,7 @@ use Rattle.std.proofs.lemmas.List.{length-reverse}
 use Rattle.pd_book.specs.declared.act.Act.TheVariants as act
 use Rattle.pd_book.specs.Acts.{has_script}
 use Rattle.pd_book.specs.History.{History, BookView}
-use Rattle.pd_book.specs.Refusals.{room_refusal, name_refusal, add_refusal}
+use Rattle.pd_book.specs.Refusals.{history_full_fault_unless_space_for, refusal_if_name_bad_taken_or_too_many, add_refusal}
 use Rattle.pd_book.proofs.Calls.{recorded, has_room}
 use Rattle.pd_book.proofs.Faithful.{absent-kept}
 use Rattle.pd_book.proofs.Legality.{add_legal, both_none}
@@ -26,7 +26,7 @@ invariant_of-self-2 c =
     let history : History = record { opening = c.self.inside.opening; past = reverse acts } in
     let allowed : add_refusal history name ≡ None = ap (λ (x : BookView). add_refusal x.history name) c.self.view_is ∙ c.requires.allowed in
     let may = (add_legal history c.self.invariant.legal name text c.law_invariant.ensures allowed).0 in
-    let room = has_room 1 history (both_none (name_refusal history.past name) (room_refusal 1 history) allowed).1 in
+    let room = has_room 1 history (both_none (refusal_if_name_bad_taken_or_too_many history.past name) (history_full_fault_unless_space_for 1 history) allowed).1 in
     let few : length (reverse acts) + length c.self.inside.records.tasks.items + 1 ≤ 65536 = omega (arith, ap length c.self.invariant.tasks, room) in
     recorded c.self.inside.opening (reverse acts) _ c.self.inside.settings _ c.self.inside.records.scripts _ c.self.inside.records.tasks.items c.self.inside.last_number _ _ (act.Add name text)
     c.self.invariant

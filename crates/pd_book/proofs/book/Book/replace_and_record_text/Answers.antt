@@ -23,8 +23,8 @@ invariant_of-self-3 c =
     (ap (λ (x : BookView). line_edit_refusal (lookup (bytes_eq n) (texts x.history.past)) d) c.self.view_is ∙ c.requires.allowed)
     c.requires.inserted
     (c.in_ok-text.ensures ∙ (c.requires.text ∙ ap (λ (x : BookView). edited (text_of x.history.past n) d) (sym c.self.view_is)))
-    c.replace_text.ensures.written
-    c.replace_text.ensures.distinct
-    (c.record_act.ensures.past ∙ cc (c.in_ok-reserve.ensures.items, c.in_ok-interned_name.ensures))
+    c.replace_text_and_make_pending.ensures.written
+    c.replace_text_and_make_pending.ensures.distinct
+    (c.record_act.ensures.past ∙ cc (c.in_ok-reserve.ensures.items, c.in_ok-share_stored_name_or_given.ensures))
     few
     (omega (arith, c.in_ok-reserve.ensures.ok, c.record_act.ensures.capacity, length-reverse acts, c.in_ok-reserve.ensures.len, c.len.ensures))

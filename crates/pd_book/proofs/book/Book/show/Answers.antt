@@ -26,10 +26,10 @@ pub returns-clause-rows : goal.returns-clause-rows
 returns-clause-rows c = fact_of _ _ c.report.result c.report.ensures (rows_of_scratch c.args.self.now.history.opening c.args.self.now.history.past)
 
 pub returns-clause-grammar : goal.returns-clause-grammar
-returns-clause-grammar c = fact_of _ _ c.report.result c.report.ensures (rows_grammars c.law_verdicts_are_grammatical.ensures.given c.args.self.now.history.opening c.args.self.now.history.past)
+returns-clause-grammar c = fact_of _ _ c.report.result c.report.ensures (rows_grammars c.law_verdicts_are_of_grammar_scripts.ensures.given c.args.self.now.history.opening c.args.self.now.history.past)
 
 pub returns-clause-whole : goal.returns-clause-whole
-returns-clause-whole c = fact_of _ _ c.report.result c.report.ensures (whole_answered c.law_verdicts_are_grammatical.ensures.given c.args.self.now.history.opening c.args.self.now.history.past)
+returns-clause-whole c = fact_of _ _ c.report.result c.report.ensures (whole_answered c.law_verdicts_are_of_grammar_scripts.ensures.given c.args.self.now.history.opening c.args.self.now.history.past)
 
 pub returns-clause-parts : goal.returns-clause-parts
-returns-clause-parts c = fact_of _ _ c.report.result c.report.ensures (rows_of_whole c.law_verdicts_are_grammatical.ensures.given c.args.self.now.history.opening c.args.self.now.history.past)
+returns-clause-parts c = fact_of _ _ c.report.result c.report.ensures (rows_of_whole c.law_verdicts_are_of_grammar_scripts.ensures.given c.args.self.now.history.opening c.args.self.now.history.past)

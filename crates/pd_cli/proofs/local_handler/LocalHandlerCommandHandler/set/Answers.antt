@@ -10,11 +10,11 @@ use Rattle.pd_cli.proofs.local_handler.LocalHandlerCommandHandler.set.Goals as g
 pub returns-clause-printed : goal.returns-clause-printed
 returns-clause-printed g c =
     let book = c.args.self.now.book in
-    act_printed g.L.JobObserver.observes c.reply_to_result.result (λ v. v.items) book.history c.set.new.self.history (Set c.args.key.now c.args.value) c.args.self.now.observer tt
-    (rw (← c.as_slice.ensures) (if_ok_map c.reply_to_result.result _ _ (λ v p. ap (λ (x : List ℕ × History). Ok x) (acts_set c.set.result book c.set.new.self (set_refusal book.history c.as_slice.result.now c.args.value) (key_named c.as_slice.result.now) c.args.value v.items c.set.ensures.ok c.set.ensures.allowed c.set.ensures.err c.set.ensures.same p)) c.reply_to_result.ensures.reply_to_result))
+    act_printed g.L.JobObserver.observes c.empty_reply_or_refusal_line.result (λ v. v.items) book.history c.set.new.self.history (Set c.args.key.now c.args.value) c.args.self.now.observer tt
+    (rw (← c.as_slice.ensures) (if_ok_map c.empty_reply_or_refusal_line.result _ _ (λ v p. ap (λ (x : List ℕ × History). Ok x) (acts_set c.set.result book c.set.new.self (set_refusal book.history c.as_slice.result.now c.args.value) (key_named c.as_slice.result.now) c.args.value v.items c.set.ensures.ok c.set.ensures.allowed c.set.ensures.err c.set.ensures.same p)) c.empty_reply_or_refusal_line.ensures.reply_to_result))
 
 pub returns-clause-ready : goal.returns-clause-ready
 returns-clause-ready g c =
     let book = c.args.self.now.book in
-    act_ready c.reply_to_result.result (λ v. v.items) book.history c.set.new.self.history (Set c.args.key.now c.args.value) tt c.requires
-    (rw (← c.as_slice.ensures) (if_ok_map c.reply_to_result.result _ _ (λ v p. ap (λ (x : List ℕ × History). Ok x) (acts_set c.set.result book c.set.new.self (set_refusal book.history c.as_slice.result.now c.args.value) (key_named c.as_slice.result.now) c.args.value v.items c.set.ensures.ok c.set.ensures.allowed c.set.ensures.err c.set.ensures.same p)) c.reply_to_result.ensures.reply_to_result))
+    act_ready c.empty_reply_or_refusal_line.result (λ v. v.items) book.history c.set.new.self.history (Set c.args.key.now c.args.value) tt c.requires
+    (rw (← c.as_slice.ensures) (if_ok_map c.empty_reply_or_refusal_line.result _ _ (λ v p. ap (λ (x : List ℕ × History). Ok x) (acts_set c.set.result book c.set.new.self (set_refusal book.history c.as_slice.result.now c.args.value) (key_named c.as_slice.result.now) c.args.value v.items c.set.ensures.ok c.set.ensures.allowed c.set.ensures.err c.set.ensures.same p)) c.empty_reply_or_refusal_line.ensures.reply_to_result))

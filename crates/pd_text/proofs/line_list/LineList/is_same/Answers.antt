@@ -9,7 +9,7 @@ pub returns-then-len : goal.returns-then-len
 returns-then-len c =
     let xs = c.args.self.now in
     let ys = c.args.other.now in
-    let lens : length xs ≡ length ys = grind (arith, nat_tests, c.len-else-has_same_lines_in_place.ensures.len, c.len.ensures.len, c.if-len.true) in
+    let lens : length xs ≡ length ys = grind (arith, nat_tests, c.len-else-has_equal_octets_and_ends.ensures.len, c.len.ensures.len, c.if-len.true) in
     let there : IsTrue (nat_eq c.same_front.result c.len-then-len.result) → xs ≡ ys = λ h. whole_front xs ys lens (grind (arith, nat_tests, h, c.same_front.ensures, c.len-then-len.ensures.len)) in
     let back : xs ≡ ys → IsTrue (nat_eq c.same_front.result c.len-then-len.result) = λ h. (let whole : common_prefix xs ys ≡ length xs = subst (λ (zs : List (List ℕ)). common_prefix xs zs ≡ length xs) h (front_whole xs) in grind (arith, nat_tests, whole, c.same_front.ensures, c.len-then-len.ensures.len)) in
     (there, back)

@@ -15,14 +15,14 @@ loop-numbers-init g c = record {
 pub loop-numbers-preserved : goal.loop-numbers-preserved
 loop-numbers-preserved g c =
     let old = to_come c.loop-numbers.line_reader (g.R.Read.remaining c.loop-numbers.reader) in
-    let new = to_come c.read_and_gather_line.new.line_reader (g.R.Read.remaining c.read_and_gather_line.new.reader) in
+    let new = to_come c.gather_line_returning_whether_any.new.line_reader (g.R.Read.remaining c.gather_line_returning_whether_any.new.reader) in
     record {
-      so_far = known_then (SoFar c.loop-numbers.text_builder) (Gathers true c.loop-numbers.text_builder c.read_and_gather_line.new.text_builder) (SoFar c.read_and_gather_line.new.text_builder) (g.R.Read.remaining c.args.reader.now) old new
-          (λ x y z s t. so_more c.loop-numbers.text_builder c.read_and_gather_line.new.text_builder x y z s t) c.loop-numbers.invariant.so_far (rw c.if-branch.true at c.in_ok-read_and_gather_line.ensures.line);
-      spent = spends_then ([], 1048576) c.loop-numbers.line_reader c.read_and_gather_line.new.line_reader (g.R.Read.remaining c.args.reader.now) (g.R.Read.remaining c.loop-numbers.reader) (g.R.Read.remaining c.read_and_gather_line.new.reader) c.loop-numbers.invariant.spent (rw c.if-branch.true at c.in_ok-read_and_gather_line.ensures.reads);
+      so_far = known_then (SoFar c.loop-numbers.text_builder) (Gathers true c.loop-numbers.text_builder c.gather_line_returning_whether_any.new.text_builder) (SoFar c.gather_line_returning_whether_any.new.text_builder) (g.R.Read.remaining c.args.reader.now) old new
+          (λ x y z s t. so_more c.loop-numbers.text_builder c.gather_line_returning_whether_any.new.text_builder x y z s t) c.loop-numbers.invariant.so_far (rw c.if-branch.true at c.in_ok-gather_line_returning_whether_any.ensures.line);
+      spent = spends_then ([], 1048576) c.loop-numbers.line_reader c.gather_line_returning_whether_any.new.line_reader (g.R.Read.remaining c.args.reader.now) (g.R.Read.remaining c.loop-numbers.reader) (g.R.Read.remaining c.gather_line_returning_whether_any.new.reader) c.loop-numbers.invariant.spent (rw c.if-branch.true at c.in_ok-gather_line_returning_whether_any.ensures.reads);
     }
 
-pub returns-in_err-read_and_gather_line-clause-cause : goal.returns-in_err-read_and_gather_line-clause-cause
-returns-in_err-read_and_gather_line-clause-cause g c =
-    caused_out c.from_residual.result c.in_err-read_and_gather_line.field-0.0 (g.R.InputStream.has_failed c.read_and_gather_line.new.reader) c.loop-numbers.line_reader c.read_and_gather_line.new.line_reader (g.R.Read.remaining c.args.reader.now) (g.R.Read.remaining c.loop-numbers.reader)
-    c.from_residual.ensures.1 c.loop-numbers.invariant.spent c.in_err-read_and_gather_line.ensures.cause
+pub returns-in_err-gather_line_returning_whether_any-clause-cause : goal.returns-in_err-gather_line_returning_whether_any-clause-cause
+returns-in_err-gather_line_returning_whether_any-clause-cause g c =
+    caused_out c.from_residual.result c.in_err-gather_line_returning_whether_any.field-0.0 (g.R.InputStream.has_failed c.gather_line_returning_whether_any.new.reader) c.loop-numbers.line_reader c.gather_line_returning_whether_any.new.line_reader (g.R.Read.remaining c.args.reader.now) (g.R.Read.remaining c.loop-numbers.reader)
+    c.from_residual.ensures.1 c.loop-numbers.invariant.spent c.in_err-gather_line_returning_whether_any.ensures.cause

@@ -1,6 +1,0 @@
--- The law holds.
-use Rattle.pd_host.proofs.Needed.{needed_is_needed}
-use Rattle.pd_host.proofs.laws.law_loss_evidence.Goals as goal
-
-pub returns : goal.returns
-returns c = needed_is_needed

@@ -1,0 +1,9 @@
+-- Sending leaves the rest of the state.
+use Rattle.std.proofs.Common.{rules}
+use Rattle.pd_host.proofs.syscall_table.close_stream_and_send_fin_unless_reset.Goals as goal
+
+pub returns-in_err-send_all_windows_and_nagle_permit : goal.returns-in_err-send_all_windows_and_nagle_permit
+returns-in_err-send_all_windows_and_nagle_permit c = λ s. let sent = c.in_err-send_all_windows_and_nagle_permit.ensures s in search rules
+
+pub returns-in_ok-send_all_windows_and_nagle_permit : goal.returns-in_ok-send_all_windows_and_nagle_permit
+returns-in_ok-send_all_windows_and_nagle_permit c = λ s. let sent = c.in_ok-send_all_windows_and_nagle_permit.ensures s in search rules

@@ -1,6 +1,0 @@
--- The law is a lemma over that of scripts.
-use Rattle.pd_print.proofs.LawLemmas.{lines_are_scripts_by}
-use Rattle.pd_print.proofs.laws.law_lines_are_scripts.Goals as goal
-
-pub returns : goal.returns
-returns c = lines_are_scripts_by c.law_scripts_are_grammatical.ensures.only

@@ -1,6 +1,0 @@
--- The law is a lemma.
-use Rattle.pd_print.proofs.LawLemmas.{sent_packets_agree_so}
-use Rattle.pd_print.proofs.laws.law_sent_packets_agree.Goals as goal
-
-pub returns : goal.returns
-returns c = sent_packets_agree_so

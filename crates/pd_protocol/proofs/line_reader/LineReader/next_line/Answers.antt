@@ -1,8 +1,0 @@
-use Rattle.pd_protocol.proofs.Cuts.{next_given, kept_octets}
-use Rattle.pd_protocol.proofs.line_reader.LineReader.next_line.Goals as goal
-
-pub returns-clause-line : goal.returns-clause-line
-returns-clause-line g c = next_given _ _ _ _ _ _ c.in_ok-line.ensures.line c.classify_line.ensures.line
-
-pub returns-clause-octets : goal.returns-clause-octets
-returns-clause-octets g c = c.classify_line.ensures.octets (kept_octets _ _ _ _ _ c.in_ok-line.ensures.line)
