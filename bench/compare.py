@@ -18,7 +18,7 @@ from collections.abc import Iterator
 from pathlib import Path
 from typing import Any
 
-from trees import TOP, copy_tree_with_mutant, read_mutants
+from trees import TOP, copy_tree_with_mutant, parse_mutants_of_text
 
 RULES = TOP / "bench" / "rules.mutants"
 # A verdict with its number of events or its kind, and the line.
@@ -58,7 +58,7 @@ def main() -> int:
     is_well = True
     with tempfile.TemporaryDirectory(prefix="compare-") as folder:
         before = dict(rows_of_report(report_of_sender(options.base, options.suite)))
-        for number, mutant in enumerate(read_mutants(RULES.read_text(), folders=())):
+        for number, mutant in enumerate(parse_mutants_of_text(RULES.read_text(), folders=())):
             tree = copy_tree_with_mutant(Path(folder, str(number)), mutant)
             begin = time.monotonic()
             compared = run_for_json(

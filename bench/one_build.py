@@ -13,9 +13,9 @@ from pathlib import Path
 
 from trees import Mutant
 import building
-from mutant_files import TextChange, place_of_old_text
+from mutant_files import TextChange, find_only_span_of_old_text
 from build_cache import PROGRAMS
-from kit_tools import optimised_compiler_command, find_known_kit, linker_command
+from kit_tools import optimised_compiler_command, kit_or_raise_unknown_kit_error, linker_command
 
 # The function that gives the number, in the root of each crate that a mutant changes.
 CHOOSER = "chosen_mutant"
@@ -55,7 +55,7 @@ def _with_body_per_mutant(text: str, changes: Iterable[tuple[int, TextChange]]) 
     bodies = list(function_bodies_in(text))
     found: dict[Body, dict[int, list[tuple[Body, str]]]] = {}
     for number, it in changes:
-        begin, end = place_of_old_text(it, text, True)
+        begin, end = find_only_span_of_old_text(it, text, True)
         body = next((one for one in bodies if one[0] <= begin and end <= one[1]), None)
         if body is None:
             raise OneBuildError(f"{it.file}: '{it.old}' stands in no function")
@@ -90,8 +90,8 @@ def function_bodies_in(text: str) -> Iterator[Body]:
 
 def build_with_all_mutants(tree: Path, folder: Path) -> Path:
     """Builds a tree with all mutants in a folder; the program serves as both."""
-    kit = find_known_kit()
-    building.read_sources(kit, tree, folder, print_no_phase)
+    kit = kit_or_raise_unknown_kit_error()
+    building.make_entry_module_by_kit_reader(kit, tree, folder, print_no_phase)
     module = folder / "module.ll"
     source = str(folder / "entry/module.bc")
     command = [str(kit.compiler), "-x", "ir", "-S", "-emit-llvm", "-O0", source, "-o", str(module)]
@@ -102,10 +102,10 @@ def build_with_all_mutants(tree: Path, folder: Path) -> Path:
     module.write_text(f"{text}\n{_GLOBAL}")
     given = (folder / "entry/arguments").read_text().splitlines()
     compile_command = [it.replace("module.bc", "module.ll") for it in optimised_compiler_command(kit, given)]
-    building.run_kit_tool(compile_command, folder, lambda: print_no_phase(building.COMPILING))
-    building.run_kit_tool(building.fault_handler_command(kit, folder / "handler.o"), folder, lambda: None)
+    building.run_kit_tool_or_raise_no_build(compile_command, folder, lambda: print_no_phase(building.COMPILING))
+    building.run_kit_tool_or_raise_no_build(building.fault_handler_compile_command(kit, folder / "handler.o"), folder, lambda: None)
     program = folder / "program"
-    building.run_kit_tool(
+    building.run_kit_tool_or_raise_no_build(
         linker_command(kit, (folder / "module.o", folder / "handler.o"), program), folder, lambda: None
     )
     return program

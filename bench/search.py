@@ -21,19 +21,19 @@ from collections.abc import Sequence
 from dataclasses import dataclass
 from pathlib import Path
 
-from trees import TOP, Mutant, copy_tree_with_mutant, read_mutants
+from trees import TOP, Mutant, copy_tree_with_mutant, parse_mutants_of_text
 from one_build import apply_all_mutants, build_with_all_mutants, programs_with_mutant
 
 sys.path.insert(0, str(TOP / "client"))
 
-from pdsuite.compare.affected import changed_names  # noqa: E402
+from pdsuite.compare.affected import names_changed_between_trees  # noqa: E402
 from pdsuite.compare.senders import Sender  # noqa: E402
 from pdsuite.programs.verdict import Verdict  # noqa: E402
 from pdsuite.search.candidates import CandidateLists  # noqa: E402
 from pdsuite.search.find import DiffersTest, FailsTest  # noqa: E402
 from pdsuite.search.finished_script import least_script_of_find  # noqa: E402
 from pdsuite.search.initial_inputs import record_initial_inputs, suite_scripts_of_tree  # noqa: E402
-from pdsuite.search.oracle import ConfiguredScript, ProgramOracle, SenderOracle, query_sizes  # noqa: E402
+from pdsuite.search.oracle import ConfiguredScript, ProgramOracle, SenderOracle, input_counts_of_successive_queries  # noqa: E402
 from pdsuite.search.relevance import emphasis_of_changes  # noqa: E402
 from pdsuite.search.save import save_script_and_settings  # noqa: E402
 from pdsuite.search.search import Search  # noqa: E402
@@ -69,9 +69,9 @@ class SearchBench:
         after = self._oracle_of_mutant(number, folder / "after")
         is_seen = any(it.verdict is not Verdict.PASS for it in after.rows(self.scripts))
         tree = copy_tree_with_mutant(folder / "tree", mutant)
-        emphasis = emphasis_of_changes(changed_names(self.base, tree), frozenset())
+        emphasis = emphasis_of_changes(names_changed_between_trees(self.base, tree), frozenset())
         begun = record_initial_inputs(list(self.scripts), before, frozenset())
-        drawing = CandidateLists(self.options.seed, query_sizes(), emphasis, begun)
+        drawing = CandidateLists(self.options.seed, input_counts_of_successive_queries(), emphasis, begun)
         seconds = 0.0 if self.options.as_found else SECONDS
         search = Search(before, FailsTest(after), DiffersTest(after), drawing, seconds, self.options.inputs)
         searched = search.run(lambda inputs: None)
@@ -106,7 +106,7 @@ def main() -> int:
     parser.add_argument("--program", type=Path)
     parser.add_argument("names", metavar="NAME", nargs="*")
     options = parser.parse_args()
-    mutants = read_mutants(MUTANTS.read_text(), True, ())
+    mutants = parse_mutants_of_text(MUTANTS.read_text(), True, ())
     with tempfile.TemporaryDirectory(prefix="search-") as folder, Stop() as stop:
         base = copy_tree_with_mutant(Path(folder, "base"))
         copy_suite(base / SUITE)

@@ -26,7 +26,7 @@ from pathlib import Path
 TOP = Path(__file__).resolve().parents[1]
 sys.path.insert(0, str(TOP / "tools"))
 
-from mutant_files import changed_texts, read_mutants  # noqa: E402
+from mutant_files import files_and_texts_changed_by_mutant, parse_mutants_of_text  # noqa: E402
 
 RULES = TOP / "bench/rules.mutants"
 OWN, WRONG = "the sender as it is", "one that doesn't compile"
@@ -62,8 +62,8 @@ class SenderTree:
         """Clones, and reads the rules, all where none is named."""
         subprocess.run(["git", "-c", "advice.detachedHead=false", "clone", "-q", TOP, self.top], check=True)
         subprocess.run(["cp", "-R", self.top / "examples/suite", self.top / SUITE], check=True)
-        mutants = read_mutants(RULES.read_text(), folders=())
-        rules = {it.name: dict(changed_texts(it, self.top)) for it in mutants if it.name in names or not names}
+        mutants = parse_mutants_of_text(RULES.read_text(), folders=())
+        rules = {it.name: dict(files_and_texts_changed_by_mutant(it, self.top)) for it in mutants if it.name in names or not names}
         own = {path: path.read_text() for texts in rules.values() for path in texts}
         own[self.top / SOURCE] = (self.top / SOURCE).read_text()
         self.texts = {OWN: own, **{name: {**own, **texts} for name, texts in rules.items()}}

@@ -7,9 +7,9 @@ from pathlib import Path
 TOP = Path(__file__).resolve().parents[1]
 sys.path.insert(0, str(TOP / "tools"))
 
-from mutant_files import Mutant, MutantError, apply_mutant, read_mutants  # noqa: E402
+from mutant_files import Mutant, MutantError, apply_mutant, parse_mutants_of_text  # noqa: E402
 
-__all__ = ["TOP", "Mutant", "copy_tree_with_mutant", "read_mutants"]
+__all__ = ["TOP", "Mutant", "copy_tree_with_mutant", "parse_mutants_of_text"]
 
 # The parts of this tree that a copy has.
 FOLDERS = ("client/pdsuite", "crates", "tools")

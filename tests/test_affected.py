@@ -8,7 +8,7 @@ import pytest
 TOP = Path(__file__).resolve().parents[1]
 sys.path.insert(0, str(TOP / "tools"))
 
-from affected_sections import AffectedParagraph, affected_paragraphs, citations_in  # noqa: E402
+from affected_sections import AffectedParagraph, affected_paragraphs_and_unmatched_items, citations_in  # noqa: E402
 
 PAGE = """# The sender
 Before all (RFC 1, section 1)
@@ -78,7 +78,7 @@ def paragraphs_after_change(tmp_path: Path, old: str, new: str) -> list[Affected
     before = write_crate(tmp_path / "before")
     assert (DEFINITIONS + CODE).count(old) == 1
     after = write_crate(tmp_path / "after", DEFINITIONS.replace(old, new), CODE.replace(old, new))
-    return list(affected_paragraphs(before, after))
+    return list(affected_paragraphs_and_unmatched_items(before, after))
 
 
 LINUX = """# Linux
@@ -141,4 +141,4 @@ def test_sections_steps_and_names_are_read() -> None:
 
 
 def test_of_this_tree_as_it_is_nothing_is_affected() -> None:
-    assert not list(affected_paragraphs(TOP, TOP))
+    assert not list(affected_paragraphs_and_unmatched_items(TOP, TOP))

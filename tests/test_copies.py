@@ -12,7 +12,7 @@ TOP = Path(__file__).resolve().parents[1]
 sys.path.insert(0, str(TOP / "tools"))
 
 import copies  # noqa: E402
-from copies import Copy, copy_with_settled_stamps, copy_proof_sources  # noqa: E402
+from copies import Copy, wait_until_stamps_of_copy_settle, copy_to_trees_returning_checksums  # noqa: E402
 from source_sums import Unreadable  # noqa: E402
 
 CRATES = ("low", "top")
@@ -38,7 +38,7 @@ def tree(tmp_path: Path) -> Path:
 
 def test_a_copy_has_what_is_read_and_no_more(tree: Path, tmp_path: Path) -> None:
     trees = [tmp_path / "one", tmp_path / "two"]
-    sums, made = copy_proof_sources(tree, CRATES, trees)
+    sums, made = copy_to_trees_returning_checksums(tree, CRATES, trees)
     assert [it.tree for it in made] == trees
     for it in trees:
         found = {str(path.relative_to(it)): path.read_text() for path in it.rglob("*") if path.is_file()}
@@ -85,10 +85,10 @@ def write_to_out_folder(tree: Path) -> None:
 def test_each_change_of_a_copy_shows(
     tree: Path, tmp_path: Path, change: Callable[[Path], None], changed: set[str | None]
 ) -> None:
-    _, (copy,) = copy_proof_sources(tree, CRATES, [tmp_path / "copy"])
-    assert copy.changed_path() is None
+    _, (copy,) = copy_to_trees_returning_checksums(tree, CRATES, [tmp_path / "copy"])
+    assert copy.find_first_path_changed_since_copied() is None
     change(copy.tree)
-    assert copy.changed_path() in changed
+    assert copy.find_first_path_changed_since_copied() in changed
 
 
 @pytest.mark.parametrize("change", [edit_code, add_source])
@@ -97,8 +97,8 @@ def test_a_copy_that_changes_while_it_is_made_is_refused(
 ) -> None:
     def late(top: Path, crates: tuple[str, ...]) -> Copy:
         change(top)
-        return copy_with_settled_stamps(top, crates)
+        return wait_until_stamps_of_copy_settle(top, crates)
 
-    monkeypatch.setattr(copies, "copy_with_settled_stamps", late)
+    monkeypatch.setattr(copies, "wait_until_stamps_of_copy_settle", late)
     with pytest.raises(Unreadable, match="copy has changed while it was made"):
-        copy_proof_sources(tree, CRATES, [tmp_path / "copy"])
+        copy_to_trees_returning_checksums(tree, CRATES, [tmp_path / "copy"])

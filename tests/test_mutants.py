@@ -16,15 +16,15 @@ from mutant_files import (  # noqa: E402
     Mutant,
     MutantError,
     apply_mutant,
-    changed_texts,
+    files_and_texts_changed_by_mutant,
     read_crate_mutants,
     read_mutants_file,
     read_python_mutants,
-    read_mutants,
+    parse_mutants_of_text,
 )
 import mutants as mutants_tool  # noqa: E402
-from mutant_python import FileMutant, NamedTest, TreeCopies, mutant_applied, named_test  # noqa: E402
-from mutant_python import refuse_failing_tests, test_command as command_of  # noqa: E402
+from mutant_python import FileMutant, NamedTest, TreeCopies, mutant_applied, parse_test_kind_and_place  # noqa: E402
+from mutant_python import refuse_failing_tests, test_folder_and_command as command_of  # noqa: E402
 from mutant_tests import RunLimits  # noqa: E402
 
 SECOND = "file: src/a.rt\nold:   two  blanks\nnew: \nfile: src/b.rt\nold: b: c\nnew: d\n"
@@ -34,21 +34,21 @@ WITH_TEST = "# late\nfails: story a title\nfile: src/a.rt\nold: f(a); g(b);\nnew
 
 def test_two_mutants() -> None:
     """Octets stay as they are: those that a line begins with, and a blank at its end."""
-    first, second = read_mutants(TWO)
+    first, second = parse_mutants_of_text(TWO)
     assert (first.name, first.changes) == ("first", [TextChange("src/a.rt", "x", "y")])
     assert second.changes == [TextChange("src/a.rt", "  two  blanks", ""), TextChange("src/b.rt", "b: c", "d")]
-    assert second.edit_file_text == SECOND
+    assert second.kit_edit_file_text == SECOND
     assert not first.test
 
 
 def test_a_mutant_with_a_test() -> None:
-    (mutant,) = read_mutants(WITH_TEST, need_tests=True)
+    (mutant,) = parse_mutants_of_text(WITH_TEST, need_tests=True)
     assert (mutant.name, mutant.test) == ("late", "story a title")
     assert mutant.changes == [TextChange("src/a.rt", "f(a); g(b);", "g(b);")]
 
 
 def test_no_mutants() -> None:
-    assert read_mutants("") == []
+    assert parse_mutants_of_text("") == []
 
 
 PAIR = "file: src/a.rt\nold: x\nnew: y\n"
@@ -84,7 +84,7 @@ PAIR = "file: src/a.rt\nold: x\nnew: y\n"
 )
 def test_what_is_no_mutant(text: str, why: str) -> None:
     with pytest.raises(MutantError) as error:
-        read_mutants(text)
+        parse_mutants_of_text(text)
     assert str(error.value) == why
 
 
@@ -97,7 +97,7 @@ def test_what_is_no_mutant(text: str, why: str) -> None:
 )
 def test_what_is_no_mutant_with_a_test(text: str, why: str) -> None:
     with pytest.raises(MutantError) as error:
-        read_mutants(text, need_tests=True)
+        parse_mutants_of_text(text, need_tests=True)
     assert str(error.value) == why
 
 
@@ -169,7 +169,7 @@ CRATES = [
 @pytest.mark.parametrize("crate, mutant", CRATES, ids=[f"{crate}-{mutant.name}" for crate, mutant in CRATES])
 def test_mutants_of_crates(crate: str, mutant: Mutant) -> None:
     """Each finds what it takes away, once."""
-    assert list(changed_texts(mutant, TOP / "crates" / crate))
+    assert list(files_and_texts_changed_by_mutant(mutant, TOP / "crates" / crate))
 
 
 PYTHON = [(file, mutant) for file, mutants in read_python_mutants(TOP).items() for mutant in mutants]
@@ -178,8 +178,8 @@ PYTHON = [(file, mutant) for file, mutants in read_python_mutants(TOP).items() f
 @pytest.mark.parametrize("file, mutant", PYTHON, ids=[f"{file}-{mutant.name}" for file, mutant in PYTHON])
 def test_mutants_of_python_and_shell(file: str, mutant: Mutant) -> None:
     """Each finds what it takes away, once, and names a test that is there."""
-    assert list(changed_texts(mutant, TOP))
-    test = named_test(FileMutant(file, mutant))
+    assert list(files_and_texts_changed_by_mutant(mutant, TOP))
+    test = parse_test_kind_and_place(FileMutant(file, mutant))
     if test.kind == "shell":
         text = "".join(it.read_text() for it in (TOP / "tests" / "shell").glob(f"{test.place}.sh"))
         assert f"expect {test.line} " in text
@@ -190,11 +190,11 @@ def test_mutants_of_python_and_shell(file: str, mutant: Mutant) -> None:
 
 
 def test_a_mutant_of_python_and_shell_is_of_any_file_of_the_tree() -> None:
-    (mutant,) = read_mutants("# a\nfails: shell b c\nfile: check\nold: x\nnew: y\n", True, ())
+    (mutant,) = parse_mutants_of_text("# a\nfails: shell b c\nfile: check\nold: x\nnew: y\n", True, ())
     assert (mutant.test, mutant.changes) == ("shell b c", [TextChange("check", "x", "y")])
     for path in ("/check", "../check", "a/../../check"):
         with pytest.raises(MutantError) as error:
-            read_mutants(f"# a\nfails: shell b c\nfile: {path}\nold: x\nnew: y\n", True, ())
+            parse_mutants_of_text(f"# a\nfails: shell b c\nfile: {path}\nold: x\nnew: y\n", True, ())
         assert str(error.value) == f"3: 'file: {path}' has to name a file of the tree, before 'old:'"
 
 
@@ -207,13 +207,13 @@ def test_a_mutant_of_python_and_shell_is_of_any_file_of_the_tree() -> None:
     ],
 )
 def test_a_mutant_names_its_test(test: str, wanted: NamedTest) -> None:
-    assert named_test(FileMutant("a", make_mutant(test=test))) == wanted
+    assert parse_test_kind_and_place(FileMutant("a", make_mutant(test=test))) == wanted
 
 
 @pytest.mark.parametrize("test", ["client", "shell links", "run a title", "client a b"])
 def test_what_names_no_test(test: str) -> None:
     with pytest.raises(MutantError):
-        named_test(FileMutant("a", make_mutant(test=test)))
+        parse_test_kind_and_place(FileMutant("a", make_mutant(test=test)))
 
 
 @pytest.mark.parametrize(
@@ -246,7 +246,9 @@ class PassingCopies(TreeCopies):
 
     calls: "list[tuple[str, list[str], str]]" = []
 
-    def run_tests(self, kind: str, places: Sequence[str], tree: Path, line: str = "") -> "tuple[int, str]":
+    def run_tests_returning_status_and_output(
+        self, kind: str, places: Sequence[str], tree: Path, line: str = ""
+    ) -> "tuple[int, str]":
         self.calls.append((kind, [*places], line))
         return 0, f"ok shell {line}\n"
 
@@ -270,12 +272,12 @@ def test_a_mutant_is_taken_back(tmp_path: Path) -> None:
 @pytest.mark.parametrize(
     "mutant",
     [
-        *read_mutants((TOP / "bench/rules.mutants").read_text(), folders=()),
-        *read_mutants((TOP / "bench/search.mutants").read_text(), need_tests=True, folders=()),
+        *parse_mutants_of_text((TOP / "bench/rules.mutants").read_text(), folders=()),
+        *parse_mutants_of_text((TOP / "bench/search.mutants").read_text(), need_tests=True, folders=()),
     ],
 )
 def test_mutants_of_benches_can_be_applied(mutant: Mutant) -> None:
-    assert list(changed_texts(mutant, TOP))
+    assert list(files_and_texts_changed_by_mutant(mutant, TOP))
 
 
 # Proves any library, and reports each mutant of a crate as refused, but for two.
@@ -341,7 +343,7 @@ def test_tests_are_run_as_often_and_as_long_as_the_options_say(tmp_path: Path, m
         return 0
 
     monkeypatch.setattr(mutants_tool, "check_kit_on_path", lambda: None)
-    monkeypatch.setattr(mutants_tool, "try_test_mutants", try_test_mutants)
+    monkeypatch.setattr(mutants_tool, "try_test_mutants_returning_status", try_test_mutants)
     for arguments in (["tests", "-j", "3", "--times", "7", "--seconds", "9"], ["tests", "-j", "1"]):
         assert mutants_tool.try_chosen_mutants(mutants_tool.make_parser().parse_args(arguments)) == 0
     assert calls == [(3, 7, 9), (1, 10, 40)]

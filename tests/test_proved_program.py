@@ -82,9 +82,11 @@ CHANGES = {
     "checksums of another program": f"sed -i '1s/^./x/' {PROGRAM}.sums",
     "checksums without a kit": f"sed -i '$d' {PROGRAM}.sums",
     "checksums that end early": f"head -n -3 {PROGRAM}.sums >x && cat x >{PROGRAM}.sums",
-    "what decides is another": "printf '\\n\\ndef is_proved(*_):\\n    return False\\n' >>tools/proof_sums.py",
+    "what decides is another": (
+        "printf '\\n\\ndef is_proved_keeping_stamps(*_):\\n    return False\\n' >>tools/proof_sums.py"
+    ),
     "what says which crates count is another": (
-        "printf '\\n\\ndef libraries_below(*_):\\n    return []\\n' >>tools/crate_graph.py"
+        "printf '\\n\\ndef crates_below_one_in_build_order(*_):\\n    return []\\n' >>tools/crate_graph.py"
     ),
     "another kit": 'echo "kit 2" >"$KIT/KIT-ID"',
     "a command of no kit": 'rm "$KIT/KIT-ID"',
@@ -197,8 +199,8 @@ def test_what_changed_in_the_tick_of_a_look_is_read_again(tmp_path: Path, monkey
     tree = ProvedTree(tmp_path)
     monkeypatch.setenv("PATH", tree.environment["PATH"])
     # As if the clock hadn't moved on since this source was written.
-    monkeypatch.setattr(stamps, "make_probe", lambda _: (tree.top / CODE).stat())
-    assert proof_sums.is_proved(str(tree.top), "top")
+    monkeypatch.setattr(stamps, "probe_file_system_clock_by_new_file", lambda _: (tree.top / CODE).stat())
+    assert proof_sums.is_proved_keeping_stamps(str(tree.top), "top")
     assert not (tree.top / f"{PROGRAM}.stamps").exists()
 
 
@@ -207,11 +209,11 @@ def test_where_a_program_can_set_the_clock_of_a_file_nothing_is_kept(
 ) -> None:
     tree = ProvedTree(tmp_path)
     monkeypatch.setenv("PATH", tree.environment["PATH"])
-    assert stamps.make_probe(str(tmp_path))
+    assert stamps.probe_file_system_clock_by_new_file(str(tmp_path))
     # As FAT has it, where the moment of a change is that of the last edit, which any program may set.
     probe = os.stat_result((0o100644, 1, tree.top.stat().st_dev, 1, 0, 0, 0, 0, 0, 0))
     monkeypatch.setattr(os, "fstat", lambda _: probe)
-    assert proof_sums.is_proved(str(tree.top), "top")
+    assert proof_sums.is_proved_keeping_stamps(str(tree.top), "top")
     assert not (tree.top / f"{PROGRAM}.stamps").exists()
 
 
@@ -229,7 +231,7 @@ def test_what_changes_while_it_is_read_is_read_again(
         return found
 
     monkeypatch.setattr(proof_sums, "sums_of_files", read_and_change)
-    assert proof_sums.is_proved(str(tree.top), "top")
+    assert proof_sums.is_proved_keeping_stamps(str(tree.top), "top")
     assert not (tree.top / f"{PROGRAM}.stamps").exists()
 
 
@@ -243,7 +245,7 @@ def test_what_comes_before_the_stamps_are_taken_is_read_again(tmp_path: Path, mo
         return taken(top, paths)
 
     monkeypatch.setattr(stamps, "stamps_of", take_late)
-    assert proof_sums.is_proved(str(tree.top), "top")
+    assert proof_sums.is_proved_keeping_stamps(str(tree.top), "top")
     assert not tree.is_proved()
 
 

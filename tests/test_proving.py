@@ -24,16 +24,18 @@ def test_definitions_are_kept_beside_another_link_of_the_file(tmp_path: Path) ->
     out.mkdir()
     (out / changed_rules.KEPT).write_text("{}")
     other.hardlink_to(out / changed_rules.KEPT)
-    changed_rules.keep_definitions(out, [crate])
-    assert other.read_text() == "{}" and changed_rules.changed_since_proof(out, [crate]) == []
+    changed_rules.write_definitions_of_last_proof(out, [crate])
+    assert other.read_text() == "{}" and changed_rules.new_or_changed_definitions_since_proof(out, [crate]) == []
     (crate / "specs" / "Rule.antt").write_text("abbrev pub one : N\none = 2\n")
-    assert [it.place for it in changed_rules.changed_since_proof(out, [crate])] == ["crates/low/specs/Rule.antt:1"]
+    assert [it.place for it in changed_rules.new_or_changed_definitions_since_proof(out, [crate])] == [
+        "crates/low/specs/Rule.antt:1"
+    ]
 
 
 def test_a_proof_reads_what_was_written_in_each_folder(tmp_path: Path, monkeypatch: pytest.MonkeyPatch) -> None:
     monkeypatch.setattr(proofs, "TOP", tmp_path)
     crate = make_crate(tmp_path, "low")
-    found = sorted(str(it.relative_to(crate)) for it in proofs.proof_sources("low"))
+    found = sorted(str(it.relative_to(crate)) for it in proofs.own_source_paths_of_crate("low"))
     assert found == ["proofs/in/Lib.antt", "specs/Rule.antt", "src/in/more.rt", "src/lib.rt"]
 
 
@@ -47,7 +49,7 @@ def test_a_crate_that_changed_takes_longer(tmp_path: Path, monkeypatch: pytest.M
         os.utime(crate / "out" / name, (9_000_000_000, 9_000_000_000))
     uses: dict[str, list[str]] = {"low": [], "high": ["low"], "apart": []}
     times = proofs.Times({"low": 100.0, "high": 200.0})
-    assert times.expected_seconds(uses) == {"low": 2.0, "high": 2.0, "apart": 2.0}
+    assert times.expected_seconds_by_crate(uses) == {"low": 2.0, "high": 2.0, "apart": 2.0}
     later = (9_000_000_001, 9_000_000_001)
     os.utime(tmp_path / "crates/low/proofs/in/Lib.antt", later)
-    assert times.expected_seconds(uses) == {"low": 100.0, "high": 200.0, "apart": 2.0}
+    assert times.expected_seconds_by_crate(uses) == {"low": 100.0, "high": 200.0, "apart": 2.0}

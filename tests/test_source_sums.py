@@ -12,7 +12,7 @@ TOP = Path(__file__).resolve().parents[1]
 sys.path.insert(0, str(TOP / "tools"))
 
 from kit import kit_id_on_path  # noqa: E402
-from source_sums import Unreadable, sources_of_proof, sums_of_proof  # noqa: E402
+from source_sums import Unreadable, sources_of_proof, proof_source_sums_by_path  # noqa: E402
 
 READ = [
     "HANDLES",
@@ -38,7 +38,7 @@ def tree(tmp_path: Path) -> Path:
 def test_a_proof_reads_the_sources_of_its_crate_and_of_those_below(tree: Path) -> None:
     assert sources_of_proof(str(tree), "high") == READ
     assert sources_of_proof(str(tree), "low") == [it for it in READ if "high" not in it]
-    found = sums_of_proof(str(tree), "high")
+    found = proof_source_sums_by_path(str(tree), "high")
     assert list(found) == READ
     assert found["crates/low/src/lib.rt"] == hashlib.sha256(b"crates/low/src/lib.rt").hexdigest()
 
@@ -79,7 +79,7 @@ def test_what_no_proof_reads_is_refused_by_name(
 ) -> None:
     change(tree / path)
     with pytest.raises(Unreadable) as refused:
-        sums_of_proof(str(tree), "high")
+        proof_source_sums_by_path(str(tree), "high")
     assert str(refused.value) == why
 
 

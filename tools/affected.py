@@ -24,7 +24,7 @@ from dataclasses import asdict
 from pathlib import Path
 from typing import Optional
 
-from affected_sections import affected_paragraphs, changed_names
+from affected_sections import affected_paragraphs_and_unmatched_items, each_changed_code_item_with_names
 
 TOP = Path(__file__).resolve().parents[1]
 sys.path.insert(0, str(TOP / "tests"))
@@ -44,10 +44,10 @@ def length_prefixed(octets: bytes) -> bytes:
     return b"%d\n%b" % (len(octets), octets)
 
 
-def split_parts(octets: bytes) -> Iterator[bytes]:
+def leading_length_prefixed_parts(octets: bytes) -> Iterator[bytes]:
     """The parts of a text.
 
-    >>> list(split_parts(length_prefixed(b"a") + length_prefixed(b"") + length_prefixed(b"1\\n2")))
+    >>> list(leading_length_prefixed_parts(length_prefixed(b"a") + length_prefixed(b"") + length_prefixed(b"1\\n2")))
     [b'a', b'', b'1\\n2']
     """
     at = 0
@@ -56,7 +56,7 @@ def split_parts(octets: bytes) -> Iterator[bytes]:
         yield octets[found.end() : at]
 
 
-def encode_start(call: ProgramCall) -> bytes:
+def encode_program_call_with_output_limit(call: ProgramCall) -> bytes:
     """A start of a program."""
     per_octet = EXPLANATION_PER_OCTET if b"--explain" in call.arguments else OUTPUT_PER_OCTET
     most = OUTPUT + per_octet * len(call.given)
@@ -64,18 +64,18 @@ def encode_start(call: ProgramCall) -> bytes:
     return b"".join(map(length_prefixed, (command, call.given, b"%d" % most)))
 
 
-def answer_if_any(output: bytes, errors: bytes, status: bytes) -> Optional[ProgramOutput]:
+def program_output_if_status_is_number(output: bytes, errors: bytes, status: bytes) -> Optional[ProgramOutput]:
     """The answer to a start, if there is one."""
     return ProgramOutput(output, errors, int(status)) if status.strip().isdigit() else None
 
 
-def list_affected(answers: bytes, before: Optional[Path]) -> dict[str, object]:
+def affected_by_program_answers_and_trees(answers: bytes, before: Optional[Path]) -> dict[str, object]:
     """The rows and paragraphs that are affected."""
     tables = tables_about_sender()
-    each = list(zip(*[split_parts(answers)] * 6))
-    old = [answer_if_any(*it[:3]) for it in each]
-    new = [answer_if_any(*it[3:]) for it in each]
-    paragraphs = None if before is None else [asdict(it) for it in affected_paragraphs(before, TOP)]
+    each = list(zip(*[leading_length_prefixed_parts(answers)] * 6))
+    old = [program_output_if_status_is_number(*it[:3]) for it in each]
+    new = [program_output_if_status_is_number(*it[3:]) for it in each]
+    paragraphs = None if before is None else [asdict(it) for it in affected_paragraphs_and_unmatched_items(before, TOP)]
     return {
         "rows": [asdict(it) for it in affected_rows(tables, old, new)],
         "unheard": count_unanswered_cases(tables, new),
@@ -95,11 +95,13 @@ def main(arguments: Sequence[str]) -> int:
     changed_command.add_argument("--after", metavar="FOLDER", type=Path, default=TOP)
     options = parser.parse_args(arguments)
     if options.command == "changed":
-        print(json.dumps([asdict(it) for it in changed_names(options.before, options.after)]))
+        print(json.dumps([asdict(it) for it in each_changed_code_item_with_names(options.before, options.after)]))
     elif options.command == "starts":
-        sys.stdout.buffer.writelines(encode_start(it) for it in calls_of_tables(tables_about_sender()))
+        sys.stdout.buffer.writelines(
+            encode_program_call_with_output_limit(it) for it in calls_of_tables(tables_about_sender())
+        )
     else:
-        print(json.dumps(list_affected(options.answers.read_bytes(), options.before)))
+        print(json.dumps(affected_by_program_answers_and_trees(options.answers.read_bytes(), options.before)))
     return 0
 
 

@@ -32,11 +32,11 @@ class ChangedDefault:
         return f"{FIELDS}:{self.line}"
 
 
-def defaults_in(text: str) -> dict[str, tuple[int, str]]:
+def parse_setting_defaults_with_lines(text: str) -> dict[str, tuple[int, str]]:
     """The defaults of the sources, each with its line.
 
     >>> text = "    pub fn new() -> Settings\\n    {\\n        Settings {\\n            a: 1_000,\\n        }\\n    }"
-    >>> defaults_in(text)
+    >>> parse_setting_defaults_with_lines(text)
     {'a': (4, '1_000')}
     """
     found = DEFAULTS.search(text)
@@ -49,7 +49,7 @@ def defaults_in(text: str) -> dict[str, tuple[int, str]]:
 def changed_defaults(before: Path, tree: Path) -> Iterator[ChangedDefault]:
     """The settings of both trees whose defaults differ."""
     old, new = (
-        defaults_in((it / FIELDS).read_text(encoding="utf-8")) if (it / FIELDS).is_file() else {}
+        parse_setting_defaults_with_lines((it / FIELDS).read_text(encoding="utf-8")) if (it / FIELDS).is_file() else {}
         for it in (before, tree)
     )
     for key, (line, value) in new.items():
@@ -57,16 +57,18 @@ def changed_defaults(before: Path, tree: Path) -> Iterator[ChangedDefault]:
             yield ChangedDefault(key, line, old[key][1], value)
 
 
-def places_of_default(key: str, tree: Path) -> Iterator[tuple[str, int]]:
+def find_documentation_lines_of_setting(key: str, tree: Path) -> Iterator[tuple[str, int]]:
     """The files of a tree that say a setting's default, each with the line."""
     for name, begin in PLACES:
         file = tree / name
         lines = file.read_text(encoding="utf-8").split("\n") if file.is_file() else []
         yield from (
-            (name, number) for number, line in enumerate(lines, 1) if _is_line_of_default(line, begin.format(key=key))
+            (name, number)
+            for number, line in enumerate(lines, 1)
+            if _starts_with_or_equals_if_man_macro(line, begin.format(key=key))
         )
 
 
-def _is_line_of_default(line: str, begin: str) -> bool:
+def _starts_with_or_equals_if_man_macro(line: str, begin: str) -> bool:
     """Whether a line begins so; an item of a man page is all of its line."""
     return line == begin if begin.startswith(".") else line.startswith(begin)

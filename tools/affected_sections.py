@@ -13,8 +13,15 @@ from collections.abc import Iterator
 from dataclasses import dataclass, field, replace
 from pathlib import Path
 
-from changed_rules import Key, SpecRule, spec_files_of, definitions_by_word, definitions_named_by, rules_in
-from affected_defaults import changed_defaults, places_of_default
+from changed_rules import (
+    Key,
+    SpecRule,
+    spec_file_names_and_texts,
+    own_and_imported_definitions_by_word,
+    definitions_named_by,
+    rules_in,
+)
+from affected_defaults import changed_defaults, find_documentation_lines_of_setting
 
 # The pages whose paragraphs, or rows of tables, are about rules.
 PAGES = ("docs/SENDER.md", "docs/LINUX.md")
@@ -42,7 +49,7 @@ class Citation:
     section: str = ""
     parts: frozenset[str] = frozenset()
 
-    def is_same_subject(self, other: Citation) -> bool:
+    def cites_same_section_overlapping_parts(self, other: Citation) -> bool:
         """Whether both are about the same."""
         is_same = (self.rfc, self.section) == (other.rfc, other.section) and self.section
         return bool(is_same and (not self.parts or not other.parts or self.parts & other.parts))
@@ -54,7 +61,7 @@ class Citation:
 NOTHING = Citation("")
 
 
-def split_numbers(text: str) -> list[str]:
+def split_section_number_list(text: str) -> list[str]:
     """The numbers of a list, as `5.2 and 5.3`."""
     return [it for it in re.split(r", and |, | and | to ", text) if it]
 
@@ -76,18 +83,18 @@ def citations_in(text: str, above: Citation = NOTHING) -> list[Citation]:
             rfc = token["rfc"]
             found += [Citation(rfc, token["bare"])] if token["bare"] else []
         elif token["sections"]:
-            found += [Citation(rfc, it) for it in split_numbers(token["sections"])]
+            found += [Citation(rfc, it) for it in split_section_number_list(token["sections"])]
         elif token["name"]:
             names.add(token["name"])
         else:
             part = token["check"] or ""
-            parts = {part} if part else {it.partition(".")[0] for it in split_numbers(token["steps"])}
+            parts = {part} if part else {it.partition(".")[0] for it in split_section_number_list(token["steps"])}
             found = found or [replace(above, parts=frozenset())]
             found[-1] = replace(found[-1], parts=found[-1].parts | parts)
     return [replace(it, parts=it.parts | names) for it in found if it.section]
 
 
-def citation_of_heading(text: str, above: Citation = NOTHING) -> Citation:
+def default_citation_from_heading(text: str, above: Citation = NOTHING) -> Citation:
     """What a heading puts above what has no citation of its own: the only section that it names, or an RFC alone."""
     found = citations_in(text, above)
     rfc = re.search(r"RFC (\d+)", text)
@@ -109,22 +116,22 @@ class SourceItem:
     is_constant: bool = False
 
 
-def definitions_in(crate: str, file: str, text: str) -> Iterator[tuple[SpecRule, list[Citation]]]:
+def definitions_with_citations_in(crate: str, file: str, text: str) -> Iterator[tuple[SpecRule, list[Citation]]]:
     """The definitions of a file, each with what it cites."""
-    above = citation_of_heading(text.partition("\n")[0])
+    above = default_citation_from_heading(text.partition("\n")[0])
     head, line = above, 0
     for block in text.split("\n\n"):
         rule = next(rules_in(crate, file, block), None)
         comment = " ".join(re.findall(r"^\s*--(.*)", block, re.MULTILINE))
         if rule is None and line:
-            head = citation_of_heading(comment, above) if comment else head
+            head = default_citation_from_heading(comment, above) if comment else head
         elif rule is not None:
             own = citations_in(comment, head)
             yield replace(rule, line=rule.line + line), own or [head] * bool(head.section)
         line += block.count("\n") + 2
 
 
-def functions_and_constants(text: str) -> Iterator[tuple[re.Match[str], int, list[str]]]:
+def find_functions_and_constants_with_lines(text: str) -> Iterator[tuple[re.Match[str], int, list[str]]]:
     """The functions and constants of a file of code: each with its line, and its lines from its comment to its end."""
     lines = text.split("\n")
     for number, line in enumerate(lines):
@@ -143,14 +150,14 @@ def functions_and_constants(text: str) -> Iterator[tuple[re.Match[str], int, lis
         yield found, number + 1, lines[begin : end + 1]
 
 
-def source_items_in(crate: str, path: str, text: str) -> Iterator[SourceItem]:
+def functions_and_constants_with_citations(crate: str, path: str, text: str) -> Iterator[SourceItem]:
     """The functions and constants of a file."""
     used = {
         name.partition(" as ")[0]: (low, file, name.partition(" as ")[0])
         for low, file, names in GHOST_USE.findall(text)
         for name in (it.strip() for it in names.split(","))
     }
-    for found, line, lines in functions_and_constants(text):
+    for found, line, lines in find_functions_and_constants_with_lines(text):
         comment = " ".join(it.strip().removeprefix("///") for it in lines if it.lstrip().startswith("///"))
         body = [it.strip() for it in lines if not it.lstrip().startswith("//")]
         contract = " ".join(it for it in body if it.startswith(("ensures", "requires")))
@@ -168,7 +175,7 @@ class SenderSources:
     definitions: dict[Key, SourceItem] = field(default_factory=dict)
     code: dict[tuple[str, str, str, int], SourceItem] = field(default_factory=dict)
 
-    def cited_by(self, key: Key) -> tuple[Citation, ...]:
+    def citations_of_definition(self, key: Key) -> tuple[Citation, ...]:
         """What a definition cites."""
         return self.definitions[key].cited if key in self.definitions else ()
 
@@ -178,21 +185,21 @@ def read_sender_sources(tree: Path) -> SenderSources:
     sources = SenderSources()
     for crate in CRATES:
         folder = tree / "crates" / crate
-        for file, text in spec_files_of(folder):
-            rules = list(definitions_in(crate, file, text))
-            names = definitions_by_word(crate, file, text, {rule.name for rule, _ in rules})
+        for file, text in spec_file_names_and_texts(folder):
+            rules = list(definitions_with_citations_in(crate, file, text))
+            names = own_and_imported_definitions_by_word(crate, file, text, {rule.name for rule, _ in rules})
             for rule, cited in rules:
                 named = frozenset(definitions_named_by(rule, names) - {rule.key})
                 sources.definitions[rule.key] = SourceItem(rule.name, rule.place, rule.text, tuple(cited), named)
         for path in sorted(folder.glob("src/**/*.rt")):
             inner = str(path.relative_to(folder))
-            for item in source_items_in(crate, inner, path.read_text(encoding="utf-8")):
+            for item in functions_and_constants_with_citations(crate, inner, path.read_text(encoding="utf-8")):
                 count = sum(key[:3] == (crate, inner, item.name) for key in sources.code)
                 sources.code[crate, inner, item.name, count] = item
     return sources
 
 
-def changed_or_gone_items(before: dict, after: dict) -> list[SourceItem]:  # type: ignore[type-arg]
+def new_changed_and_removed_items(before: dict, after: dict) -> list[SourceItem]:  # type: ignore[type-arg]
     """The items that are others, or are new; and those that are gone, as they were."""
     others = [it for key, it in after.items() if key not in before or before[key].text != it.text]
     return others + [it for key, it in before.items() if key not in after]
@@ -212,7 +219,7 @@ class ChangedNames:
     whole: tuple[str, ...]
 
 
-def changed_names(before: Path, tree: Path) -> Iterator[ChangedNames]:
+def each_changed_code_item_with_names(before: Path, tree: Path) -> Iterator[ChangedNames]:
     """The names in the functions and constants of the sender that changed."""
     old, after = read_sender_sources(before).code, read_sender_sources(tree)
     new = after.code
@@ -226,26 +233,26 @@ def changed_names(before: Path, tree: Path) -> Iterator[ChangedNames]:
         users = {it.name for it in new.values() if it is not item and word.search(it.text)}
         users = users if len(users) <= MOST_USERS else set()
         changed = {item.name, *users, *IDENTIFIER.findall(" ".join([*others, *gone]))}
-        cited = [*item.cited, *(it for key in sorted(item.names) for it in after.cited_by(key))]
+        cited = [*item.cited, *(it for key in sorted(item.names) for it in after.citations_of_definition(key))]
         sections = tuple(dict.fromkeys(map(str, cited)))
         whole = tuple(sorted(set(IDENTIFIER.findall(item.text))))
         yield ChangedNames(item.name, item.place, sections, tuple(sorted(changed)), whole)
 
 
-def changed_items_with_citations(
+def changed_items_citations_unless_function(
     before: SenderSources, after: SenderSources
 ) -> Iterator[tuple[SourceItem, set[Citation]]]:
     """What changed, each with all that it cites: a function nothing, since its rule is what its contract names."""
-    for item in changed_or_gone_items(before.definitions, after.definitions):
+    for item in new_changed_and_removed_items(before.definitions, after.definitions):
         users = [it for it in after.definitions.values() if any(after.definitions.get(key) is item for key in it.names)]
         yield item, {*item.cited, *(cited for it in users for cited in it.cited)}
-    for item in changed_or_gone_items(before.code, after.code):
+    for item in new_changed_and_removed_items(before.code, after.code):
         if not item.is_constant:
             yield item, set()
             continue
         word = re.compile(rf"\b{item.name}\b")
         each = [item, *(it for it in after.code.values() if it is not item and word.search(it.text))]
-        named = {cited for it in each for key in it.names for cited in after.cited_by(key)}
+        named = {cited for it in each for key in it.names for cited in after.citations_of_definition(key)}
         yield item, named.union(*(it.cited for it in each))
 
 
@@ -267,21 +274,21 @@ def citing_paragraphs_in(page: str) -> Iterator[CitingParagraph]:
             heading, above = line.removeprefix("## "), NOTHING
         elif heading and line:
             if not line.lstrip().startswith(("-", "|")) and above == NOTHING:
-                above = citation_of_heading(line)
+                above = default_citation_from_heading(line)
             cited = tuple(citations_in(line, above))
             if cited:
-                yield CitingParagraph(number, heading, paragraph_name(line), cited)
+                yield CitingParagraph(number, heading, paragraph_name_by_bold_or_first_words(line), cited)
 
 
-def citing_paragraphs_of_page(page: Path) -> Iterator[CitingParagraph]:
+def all_citing_paragraphs_of_page(page: Path) -> Iterator[CitingParagraph]:
     """The paragraphs of a page, if it is there."""
     return citing_paragraphs_in(page.read_text(encoding="utf-8")) if page.exists() else iter(())
 
 
-def paragraph_name(line: str) -> str:
+def paragraph_name_by_bold_or_first_words(line: str) -> str:
     """What a paragraph is called: its bold words, the first cell of its row, or else its first words.
 
-    >>> [paragraph_name(it) for it in ("- a **b c** d", "| [e f](#e) | g |", "1. h i j k l m n")]
+    >>> [paragraph_name_by_bold_or_first_words(it) for it in ("- a **b c** d", "| [e f](#e) | g |", "1. h i j k l m n")]
     ['b c', 'e f', 'h i j k l m']
     """
     bold = re.search(r"\*\*(.+?)\*\*", line)
@@ -304,16 +311,21 @@ class AffectedParagraph:
     rules: tuple[str, ...]
 
 
-def affected_paragraphs(before: Path, tree: Path) -> Iterator[AffectedParagraph]:
+def affected_paragraphs_and_unmatched_items(before: Path, tree: Path) -> Iterator[AffectedParagraph]:
     """Where changed defaults are written, the paragraphs of changed rules, and last what changed without one."""
     for default in changed_defaults(before, tree):
         reason = f"its default is {default.after}, and was {default.before}"
-        for page, line in places_of_default(default.key, tree):
+        for page, line in find_documentation_lines_of_setting(default.key, tree):
             yield AffectedParagraph(page, line, "a default", default.key, (reason,), (default.place,))
-    changed = list(changed_items_with_citations(read_sender_sources(before), read_sender_sources(tree)))
+    changed = list(changed_items_citations_unless_function(read_sender_sources(before), read_sender_sources(tree)))
     listed: set[str] = set()
-    for page, it in ((page, it) for page in PAGES for it in citing_paragraphs_of_page(tree / page)):
-        common = [(item, one) for item, cited in changed for one in it.cited if any(map(one.is_same_subject, cited))]
+    for page, it in ((page, it) for page in PAGES for it in all_citing_paragraphs_of_page(tree / page)):
+        common = [
+            (item, one)
+            for item, cited in changed
+            for one in it.cited
+            if any(map(one.cites_same_section_overlapping_parts, cited))
+        ]
         if common:
             rules = tuple(dict.fromkeys(f"{item.name} ({item.place})" for item, _ in common))
             listed |= set(rules)

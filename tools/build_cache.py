@@ -19,7 +19,7 @@ from dataclasses import dataclass
 from pathlib import Path
 
 import source_sums
-from kit_tools import BuildKit, UnknownKitError, find_known_kit
+from kit_tools import BuildKit, UnknownKitError, kit_or_raise_unknown_kit_error
 
 TOOLS = Path(__file__).resolve().parent
 PROGRAMS = ("pdregress", "pdrecord")
@@ -48,14 +48,14 @@ class CachedBuild:
 
     folder: Path
 
-    def intact_program_folder(self, way: str) -> Path | None:
+    def find_intact_program_folder_and_mark_used(self, way: str) -> Path | None:
         """The folder of the two programs that were built so, if they are there as they were put there."""
         folder = self.folder / way
         try:
-            if any(not is_private_folder(it) for it in (self.folder.parent, self.folder, folder)):
+            if any(not is_own_folder_closed_to_others(it) for it in (self.folder.parent, self.folder, folder)):
                 return None
             written = (folder / SUM).read_text()
-            if sums_of_programs(folder) != {written}:
+            if distinct_program_sums_in_folder(folder) != {written}:
                 return None
             os.utime(self.folder)
         except OSError:
@@ -68,7 +68,7 @@ class CachedBuild:
         file = self.folder.with_name(f"{self.folder.name}.lock")
         descriptor = os.open(file, os.O_RDWR | os.O_CREAT | os.O_NOFOLLOW | os.O_CLOEXEC, 0o600)
         try:
-            while not try_lock(descriptor):
+            while not has_locked_without_waiting(descriptor):
                 turn()
                 time.sleep(BETWEEN)
             yield
@@ -76,29 +76,31 @@ class CachedBuild:
             os.close(descriptor)
 
 
-def cached_program_folder(top: Path, ways: tuple[str, ...]) -> Path | None:
+def find_cached_program_folder_of_first_way(top: Path, ways: tuple[str, ...]) -> Path | None:
     """The folder of both programs of a tree, in the first of these ways in which they are kept, if they are."""
     try:
-        kept = place_of_build(top, find_known_kit())
+        kept = cached_build_of_tree_and_kit(top, kit_or_raise_unknown_kit_error())
     except (UnknownKitError, CacheError, source_sums.Unreadable, OSError):
         return None
-    return next((it for it in map(kept.intact_program_folder, ways) if it is not None), None)
+    return next((it for it in map(kept.find_intact_program_folder_and_mark_used, ways) if it is not None), None)
 
 
-def place_of_build(top: Path, kit: BuildKit) -> CachedBuild:
+def cached_build_of_tree_and_kit(top: Path, kit: BuildKit) -> CachedBuild:
     """Where the build of a tree by this kit is kept."""
-    return CachedBuild(folder_of_builds(top) / build_key_of(top, kit))
+    return CachedBuild(make_user_or_tree_folder_of_builds(top) / build_key_of_tree_and_kit(top, kit))
 
 
-def build_key_of(top: Path, kit: BuildKit) -> str:
+def build_key_of_tree_and_kit(top: Path, kit: BuildKit) -> str:
     """The checksum of what a build is made of: the sources that are read, what builds them, and the kit."""
     paths = sorted(
         {it for name in PROGRAMS for it in source_sums.sources_of_proof(str(top), name) if is_read_by_build(it)}
     )
-    sources = source_sums.checksum_lines(source_sums.sums_of_files(str(top), paths))
-    own = source_sums.checksum_lines(source_sums.sums_of_files(str(TOOLS), MADE_BY))
-    main = hashlib.sha256(combined_main_file(top).read_bytes()).hexdigest()
-    return hashlib.sha256(b"\0".join([sources, own, main.encode(), kit.tools_identity().encode()])).hexdigest()
+    sources = source_sums.checksum_lines_in_given_order(source_sums.sums_of_files(str(top), paths))
+    own = source_sums.checksum_lines_in_given_order(source_sums.sums_of_files(str(TOOLS), MADE_BY))
+    main = hashlib.sha256(combined_main_file_path_or_default(top).read_bytes()).hexdigest()
+    return hashlib.sha256(
+        b"\0".join([sources, own, main.encode(), kit.tools_identity_by_size_and_time().encode()])
+    ).hexdigest()
 
 
 def is_read_by_build(path: str) -> bool:
@@ -111,36 +113,36 @@ def is_read_by_build(path: str) -> bool:
     return parts[0] != "crates" or (parts[2] == "src" and path.endswith(".rt"))
 
 
-def combined_main_file(top: Path) -> Path:
+def combined_main_file_path_or_default(top: Path) -> Path:
     """The main file that makes one program of both: the tree's own, or where it has none this tree's."""
     own = top / "tools" / "combined.rattle"
     return own if own.is_file() else TOOLS / "combined.rattle"
 
 
-def folder_of_builds(top: Path) -> Path:
+def make_user_or_tree_folder_of_builds(top: Path) -> Path:
     """The folder of all builds: the user's own, or else the tree's."""
-    for folder in (*user_builds_folder(), top / "crates" / PROGRAMS[0] / "out" / "builds"):
+    for folder in (*none_or_one_user_build_folder(), top / "crates" / PROGRAMS[0] / "out" / "builds"):
         with contextlib.suppress(OSError):
             folder.mkdir(mode=0o700, parents=True, exist_ok=True)
-            if is_private_folder(folder) and os.access(folder, os.W_OK | os.X_OK):
+            if is_own_folder_closed_to_others(folder) and os.access(folder, os.W_OK | os.X_OK):
                 return folder
     raise CacheError("no folder of this user's own can be written")
 
 
-def user_builds_folder() -> Iterator[Path]:
+def none_or_one_user_build_folder() -> Iterator[Path]:
     """The folder below that which users have for what can be made again."""
     above = os.environ.get("XDG_CACHE_HOME", "")
     with contextlib.suppress(RuntimeError):
         yield (Path(above) if os.path.isabs(above) else Path.home() / ".cache") / "pdregress" / "builds"
 
 
-def is_private_folder(folder: Path) -> bool:
+def is_own_folder_closed_to_others(folder: Path) -> bool:
     """Whether a folder is one, no link, is this user's, and nobody else may look into it or change it."""
     found = folder.lstat()
     return stat.S_ISDIR(found.st_mode) and found.st_uid == os.geteuid() and not found.st_mode & 0o077
 
 
-def sums_of_programs(folder: Path) -> set[str]:
+def distinct_program_sums_in_folder(folder: Path) -> set[str]:
     """The checksums of the programs in a folder. What is one file by several names is read once."""
     found = {name: (folder / name).lstat() for name in PROGRAMS}
     files = {(it.st_dev, it.st_ino): name for name, it in found.items()}
@@ -153,7 +155,7 @@ def sha256_of_program(file: Path) -> str:
         return hashlib.sha256(opened.read()).hexdigest()
 
 
-def try_lock(descriptor: int) -> bool:
+def has_locked_without_waiting(descriptor: int) -> bool:
     """Whether this file is locked now for whoever asks."""
     try:
         fcntl.flock(descriptor, fcntl.LOCK_EX | fcntl.LOCK_NB)
@@ -162,7 +164,7 @@ def try_lock(descriptor: int) -> bool:
     return True
 
 
-def remove_old_builds(all_builds: Path, own: Path) -> None:
+def prune_builds_sparing_recent_and_own(all_builds: Path, own: Path) -> None:
     """Removes builds that weren't used for the longest time, where all of them are too large; never the own one."""
     with contextlib.suppress(OSError):
         found = sorted((it.stat().st_mtime, it) for it in all_builds.iterdir() if it.is_dir() and it != own)

@@ -19,7 +19,7 @@ import sys
 from pathlib import Path
 
 import signals
-from build_cache import OPTIMISED, PLAIN, cached_program_folder
+from build_cache import OPTIMISED, PLAIN, find_cached_program_folder_of_first_way
 
 FAULT = 2
 NO_BUILD = 3
@@ -35,30 +35,30 @@ class Phases:
     def __init__(self) -> None:
         self._last = ""
 
-    def print_if_new(self, phase: str) -> None:
+    def print_phase_to_stdout_if_new(self, phase: str) -> None:
         if phase != self._last:
             self._last = phase
             print(phase, flush=True)
 
 
-def find_or_build(tree: Path, way: str, is_kept: bool) -> int:
+def find_or_build_and_print_returning_status(tree: Path, way: str, is_kept: bool) -> int:
     """Finds what is kept, or builds it; the status."""
-    folder = cached_program_folder(tree, SERVES[way])
+    folder = find_cached_program_folder_of_first_way(tree, SERVES[way])
     if folder is not None:
         print(f"built {folder}", flush=True)
         return 0
     if is_kept:
         print("unproved: NoBuild: none is kept", file=sys.stderr)
         return NO_BUILD
-    return build_and_print(tree, PLAIN if way == ANY else way)
+    return build_in_cache_returning_status(tree, PLAIN if way == ANY else way)
 
 
-def build_and_print(tree: Path, way: str) -> int:
+def build_in_cache_returning_status(tree: Path, way: str) -> int:
     """Builds in this way; the status."""
     import building  # Imported late, since it takes time.
 
     try:
-        print(f"built {building.find_or_build(tree, way, Phases().print_if_new)}", flush=True)
+        print(f"built {building.find_or_build(tree, way, Phases().print_phase_to_stdout_if_new)}", flush=True)
     except building.NotCompiled as refused:
         print(f"unproved: NotCompiled: {refused}", file=sys.stderr, flush=True)
         sys.stderr.buffer.write(refused.printed)
@@ -77,7 +77,7 @@ def main() -> int:
     options = parser.parse_args()
     signals.raise_at_first_signal()
     try:
-        return find_or_build(options.tree.absolute(), options.way, options.kept)
+        return find_or_build_and_print_returning_status(options.tree.absolute(), options.way, options.kept)
     except signals.StoppedBySignal as signal:
         signals.end_process_by(signal.number)
 

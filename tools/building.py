@@ -17,7 +17,7 @@ from pathlib import Path
 from typing import Callable
 
 import source_sums
-from fault_places import modules_of_tree
+from fault_places import read_modules_by_rattle_path
 from build_cache import (
     PLAIN,
     PROGRAMS,
@@ -25,13 +25,13 @@ from build_cache import (
     TOOLS,
     CachedBuild,
     CacheError,
-    is_private_folder,
-    place_of_build,
-    combined_main_file,
-    remove_old_builds,
+    is_own_folder_closed_to_others,
+    cached_build_of_tree_and_kit,
+    combined_main_file_path_or_default,
+    prune_builds_sparing_recent_and_own,
     sha256_of_program,
 )
-from kit_tools import NATIVE, BuildKit, UnknownKitError, find_known_kit, linker_command, reader_command
+from kit_tools import NATIVE, BuildKit, UnknownKitError, kit_or_raise_unknown_kit_error, linker_command, reader_command
 from kit_tools import optimised_compiler_command, plain_compiler_command
 
 # The program whose main file takes the place of both, and the mark for the modules of its crate.
@@ -72,27 +72,29 @@ class NoBuild(Exception):
 def find_or_build(top: Path, way: str, note: Note) -> Path:
     """The folder of both programs of a tree, built in this way, if need be now; a note comes with each phase."""
     try:
-        kit = find_known_kit()
-        kept = place_of_build(top, kit)
-        if (found := kept.intact_program_folder(way)) is not None:
+        kit = kit_or_raise_unknown_kit_error()
+        kept = cached_build_of_tree_and_kit(top, kit)
+        if (found := kept.find_intact_program_folder_and_mark_used(way)) is not None:
             return found
         with kept.lock_for_building(lambda: note(WAITING)):
-            found = kept.intact_program_folder(way) or build_and_keep(kept, kit, top, way, note)
-        remove_old_builds(kept.folder.parent, kept.folder)
+            found = kept.find_intact_program_folder_and_mark_used(way) or build_beside_and_move_into_cache(
+                kept, kit, top, way, note
+            )
+        prune_builds_sparing_recent_and_own(kept.folder.parent, kept.folder)
         return found
     except (UnknownKitError, CacheError, source_sums.Unreadable, OSError) as error:
         raise NoBuild(str(error)) from error
 
 
-def build_and_keep(kept: CachedBuild, kit: BuildKit, top: Path, way: str, note: Note) -> Path:
+def build_beside_and_move_into_cache(kept: CachedBuild, kit: BuildKit, top: Path, way: str, note: Note) -> Path:
     """Builds in a folder beside, and puts what is whole in its place."""
     for left in kept.folder.parent.glob(f"{kept.folder.name}.*.part"):
         shutil.rmtree(left, ignore_errors=True)
     folder = kept.folder.with_name(f"{kept.folder.name}.{os.getpid()}.part")
     folder.mkdir(mode=0o700)
     try:
-        if not has_whole_module(kept.folder):
-            read_sources(kit, top, folder, note)
+        if not has_module_matching_its_checksum(kept.folder):
+            make_entry_module_by_kit_reader(kit, top, folder, note)
             shutil.rmtree(kept.folder, ignore_errors=True)
             (folder / "entry").rename(kept.folder)
         compile_and_link(kit, kept.folder, folder, way, note)
@@ -100,45 +102,52 @@ def build_and_keep(kept: CachedBuild, kit: BuildKit, top: Path, way: str, note: 
         (folder / way).rename(kept.folder / way)
     finally:
         shutil.rmtree(folder, ignore_errors=True)
-    found = kept.intact_program_folder(way)
+    found = kept.find_intact_program_folder_and_mark_used(way)
     if found is None:
         raise NoBuild("what was built isn't there")
     return found
 
 
-def has_whole_module(entry: Path) -> bool:
+def has_module_matching_its_checksum(entry: Path) -> bool:
     """Whether the module of a build is there as it was put there."""
     try:
-        return is_private_folder(entry) and sha256_of_program(entry / "module.bc") == (entry / SUM).read_text()
+        return (
+            is_own_folder_closed_to_others(entry)
+            and sha256_of_program(entry / "module.bc") == (entry / SUM).read_text()
+        )
     except OSError:
         return False
 
 
-def read_sources(kit: BuildKit, top: Path, folder: Path, note: Note) -> None:
+def make_entry_module_by_kit_reader(kit: BuildKit, top: Path, folder: Path, note: Note) -> None:
     """Reads the sources of a tree, and leaves in the folder `entry` all that programs are made of later."""
     tree, toolchain, entry = folder / "tree", folder / "toolchain", folder / "entry"
     make_combined_tree(top, tree)
-    make_toolchain(kit, toolchain, folder)
+    make_toolchain_folder_for_reader(kit, toolchain, folder)
     (folder / "temporary").mkdir()
     command = reader_command(kit, tree, PROGRAM, toolchain)
-    status, printed = run_with_turns(command, tree / "crates" / PROGRAM, folder / "temporary", lambda: note(READING))
+    status, printed = run_with_turns_capturing_stderr_only(
+        command, tree / "crates" / PROGRAM, folder / "temporary", lambda: note(READING)
+    )
     if not (folder / "module.bc").exists():
-        refused = with_tree_places(printed, tree, top)
+        refused = rewrite_message_paths_to_built_tree(printed, tree, top)
         # This tree's main file may not fit the crates of another one, an older one, say.
-        if status == REFUSED and not (lacks_own_main(top) and os.fsencode(combined_main_file(top)) in refused):
+        if status == REFUSED and not (
+            lacks_own_combined_main_file(top) and os.fsencode(combined_main_file_path_or_default(top)) in refused
+        ):
             raise NotCompiled(refused)
         raise NoBuild(f"the kit's reader ended with status {status}")
     entry.mkdir(mode=0o700)
     (folder / "module.bc").rename(entry / "module.bc")
     (folder / "arguments").rename(entry / "arguments")
-    (entry / "places.json").write_text(json.dumps(modules_of_tree(tree)))
+    (entry / "places.json").write_text(json.dumps(read_modules_by_rattle_path(tree)))
     shutil.copy(TOOLS / "report_fault.py", entry)
     (entry / SUM).write_text(sha256_of_program(entry / "module.bc"))
 
 
-def lacks_own_main(top: Path) -> bool:
+def lacks_own_combined_main_file(top: Path) -> bool:
     """Whether a tree has no main file for both programs, and so takes this tree's."""
-    return combined_main_file(top) != top / "tools" / "combined.rattle"
+    return combined_main_file_path_or_default(top) != top / "tools" / "combined.rattle"
 
 
 def make_combined_tree(top: Path, tree: Path) -> None:
@@ -149,14 +158,16 @@ def make_combined_tree(top: Path, tree: Path) -> None:
     modules = sorted(it.stem for it in sources.glob("*.rt") if it.stem != "main")
     # On one line, so that each line keeps its number.
     declared = " ".join(f"mod {it};" for it in modules)
-    (sources / "main.rt").write_text(combined_main_file(top).read_text().replace(MODULE, declared))
-    (tree / source_sums.TABLE).write_text(with_libraries_of_both((top / source_sums.TABLE).read_text()))
+    (sources / "main.rt").write_text(combined_main_file_path_or_default(top).read_text().replace(MODULE, declared))
+    (tree / source_sums.TABLE).write_text(
+        crates_txt_with_libraries_of_both_programs((top / source_sums.TABLE).read_text())
+    )
 
 
-def with_libraries_of_both(table: str) -> str:
+def crates_txt_with_libraries_of_both_programs(table: str) -> str:
     """A crates.txt in which the one program stands on what the other one does, too.
 
-    >>> with_libraries_of_both("low:\\npdregress may_wait=1: low a # so\\npdrecord: low b\\n")
+    >>> crates_txt_with_libraries_of_both_programs("low:\\npdregress may_wait=1: low a # so\\npdrecord: low b\\n")
     'low:\\npdregress may_wait=1: low a # so\\npdrecord: low b low a'
     """
     lines = table.splitlines()
@@ -166,7 +177,7 @@ def with_libraries_of_both(table: str) -> str:
     return "\n".join(f"{it.partition('#')[0].rstrip()} {other}" if it == own else it for it in lines)
 
 
-def make_toolchain(kit: BuildKit, toolchain: Path, folder: Path) -> None:
+def make_toolchain_folder_for_reader(kit: BuildKit, toolchain: Path, folder: Path) -> None:
     """Puts into a folder the toolchain that the reader is given."""
     (toolchain / "bin").mkdir(parents=True)
     (toolchain / "lib").symlink_to(kit.compiler.parents[1] / "lib")
@@ -177,12 +188,12 @@ def make_toolchain(kit: BuildKit, toolchain: Path, folder: Path) -> None:
     compiler.chmod(0o700)
 
 
-def with_tree_places(printed: bytes, tree: Path, top: Path) -> bytes:
+def rewrite_message_paths_to_built_tree(printed: bytes, tree: Path, top: Path) -> bytes:
     """The compiler's messages, with the places in the tree that is built."""
     own = os.fsencode(top / "crates" / PROGRAM)
     lines = (own + b"/" + it if it.startswith((b"src/", b"specs/")) else it for it in printed.split(b"\n"))
     printed = b"\n".join(lines).replace(os.fsencode(tree), os.fsencode(top))
-    return printed.replace(own + b"/src/main.rt", os.fsencode(combined_main_file(top)))
+    return printed.replace(own + b"/src/main.rt", os.fsencode(combined_main_file_path_or_default(top)))
 
 
 def compile_and_link(kit: BuildKit, entry: Path, folder: Path, way: str, note: Note) -> None:
@@ -193,31 +204,33 @@ def compile_and_link(kit: BuildKit, entry: Path, folder: Path, way: str, note: N
     (folder / "module.bc").unlink(missing_ok=True)
     (folder / "module.bc").symlink_to(entry / "module.bc")
     command = plain_compiler_command(kit, given) if way == PLAIN else optimised_compiler_command(kit, given)
-    run_kit_tool(command, folder, lambda: note(COMPILING))
-    run_kit_tool(fault_handler_command(kit, handler), folder, lambda: note(COMPILING))
+    run_kit_tool_or_raise_no_build(command, folder, lambda: note(COMPILING))
+    run_kit_tool_or_raise_no_build(fault_handler_compile_command(kit, handler), folder, lambda: note(COMPILING))
     first, *others = (made_folder / it for it in PROGRAMS)
-    run_kit_tool(linker_command(kit, (module, handler), first), folder, lambda: note(LINKING))
+    run_kit_tool_or_raise_no_build(linker_command(kit, (module, handler), first), folder, lambda: note(LINKING))
     for other in others:
         os.link(first, other)
     (made_folder / SUM).write_text(sha256_of_program(first))
 
 
-def fault_handler_command(kit: BuildKit, made_file: Path) -> list[str]:
+def fault_handler_compile_command(kit: BuildKit, made_file: Path) -> list[str]:
     """The command that compiles the handler of faults."""
     python = f'-DPYTHON="{sys.executable}"'
     options = [*NATIVE, "-O1", "-fPIE", "-ffreestanding", "-fno-omit-frame-pointer", python]
     return [str(kit.compiler), *options, "-c", "-x", "c", str(TOOLS / "fault_handler.c"), "-o", str(made_file)]
 
 
-def run_kit_tool(command: list[str], folder: Path, turn: Callable[[], None]) -> None:
+def run_kit_tool_or_raise_no_build(command: list[str], folder: Path, turn: Callable[[], None]) -> None:
     """Runs a tool of the kit that has to do its work."""
-    status, printed = run_with_turns(command, folder, folder, turn)
+    status, printed = run_with_turns_capturing_stderr_only(command, folder, folder, turn)
     if status:
         lines = printed.decode(errors="replace").split("\n")
         raise NoBuild(f"{Path(command[0]).name} ended with status {status}: {lines[0]}")
 
 
-def run_with_turns(command: list[str], folder: Path, temporary: Path, turn: Callable[[], None]) -> tuple[int, bytes]:
+def run_with_turns_capturing_stderr_only(
+    command: list[str], folder: Path, temporary: Path, turn: Callable[[], None]
+) -> tuple[int, bytes]:
     """Runs a command in a session of its own, with a turn at first and after each second; its status and error text.
 
     Whatever ends this, ends all of it.
@@ -238,10 +251,10 @@ def run_with_turns(command: list[str], folder: Path, temporary: Path, turn: Call
                 _, printed = process.communicate(timeout=TURN)
                 return process.returncode, printed
     finally:
-        end_session(process)
+        terminate_then_kill_process_session(process)
 
 
-def end_session(process: subprocess.Popen[bytes]) -> None:
+def terminate_then_kill_process_session(process: subprocess.Popen[bytes]) -> None:
     """Ends a session, if it hasn't ended."""
     for number in (signal.SIGTERM, signal.SIGKILL):
         if process.poll() is None:

@@ -58,41 +58,42 @@ def rules_in(crate: str, file: str, text: str) -> Iterator[SpecRule]:
         line += len(lines) + 1
 
 
-def spec_files_of(folder: Path) -> Iterator[tuple[str, str]]:
+def spec_file_names_and_texts(folder: Path) -> Iterator[tuple[str, str]]:
     """The names and texts of a crate's files of definitions."""
     for path in sorted(folder.glob("specs/*.antt")):
         yield path.stem, path.read_text(encoding="utf-8")
 
 
-def rules_of_crates(folders: Iterable[Path]) -> Iterator[SpecRule]:
+def iterate_rules_in_crate_folders(folders: Iterable[Path]) -> Iterator[SpecRule]:
     """The definitions of crates."""
     for folder in folders:
-        for file, text in spec_files_of(folder):
+        for file, text in spec_file_names_and_texts(folder):
             yield from rules_in(folder.name, file, text)
 
 
-def keep_definitions(out: Path, folders: Iterable[Path]) -> None:
+def write_definitions_of_last_proof(out: Path, folders: Iterable[Path]) -> None:
     """Keeps the definitions by which a crate was proved just now, in what is kept of it."""
-    texts = {".".join(it.key): it.text for it in rules_of_crates(folders)}
+    texts = {".".join(it.key): it.text for it in iterate_rules_in_crate_folders(folders)}
     fresh = out / f"{KEPT}.new"
     fresh.write_text(json.dumps(texts, ensure_ascii=False), encoding="utf-8")
     # Another tree may have the same file by a hard link.
     fresh.replace(out / KEPT)
 
 
-def changed_since_proof(out: Path, folders: Iterable[Path]) -> list[SpecRule]:
+def new_or_changed_definitions_since_proof(out: Path, folders: Iterable[Path]) -> list[SpecRule]:
     """The definitions that aren't those by which a crate was proved; none where nothing is kept of that."""
     try:
         kept = json.loads((out / KEPT).read_text(encoding="utf-8"))
     except (OSError, ValueError):
         return []
-    return [it for it in rules_of_crates(folders) if kept.get(".".join(it.key)) != it.text]
+    return [it for it in iterate_rules_in_crate_folders(folders) if kept.get(".".join(it.key)) != it.text]
 
 
-def definitions_by_word(crate: str, file: str, text: str, own: set[str]) -> dict[str, Key]:
+def own_and_imported_definitions_by_word(crate: str, file: str, text: str, own: set[str]) -> dict[str, Key]:
     """What each word of a file names: a definition of its own, or one that it imports.
 
-    >>> definitions_by_word("c", "F", "use Rattle.low.specs.G.{a as b, d}\\nuse Rattle.low.specs.H as h\\n", {"own"})
+    >>> text = "use Rattle.low.specs.G.{a as b, d}\\nuse Rattle.low.specs.H as h\\n"
+    >>> own_and_imported_definitions_by_word("c", "F", text, {"own"})
     {'own': ('c', 'F', 'own'), 'b': ('low', 'G', 'a'), 'd': ('low', 'G', 'd'), 'h.': ('low', 'H', '')}
     """
     found = {name: (crate, file, name) for name in own}
@@ -118,13 +119,13 @@ def definitions_named_by(rule: SpecRule, names: dict[str, Key]) -> set[Key]:
     return found
 
 
-def laws_naming(rule: SpecRule, folders: list[Path]) -> list[SpecRule]:
+def laws_naming_directly_or_indirectly(rule: SpecRule, folders: list[Path]) -> list[SpecRule]:
     """The laws of these crates that name a definition, also through others."""
     named: dict[SpecRule, set[Key]] = {}
     for folder in folders:
-        for file, text in spec_files_of(folder):
+        for file, text in spec_file_names_and_texts(folder):
             rules = list(rules_in(folder.name, file, text))
-            names = definitions_by_word(folder.name, file, text, {it.name for it in rules})
+            names = own_and_imported_definitions_by_word(folder.name, file, text, {it.name for it in rules})
             named.update((it, definitions_named_by(it, names)) for it in rules)
     reached = {rule.key}
     while more := {it.key for it, those in named.items() if it.key not in reached and those & reached}:
@@ -132,9 +133,9 @@ def laws_naming(rule: SpecRule, folders: list[Path]) -> list[SpecRule]:
     return [it for it in named if it.key in reached and LAWS.search(it.file)]
 
 
-def change_report_lines(out: Path, folders: list[Path]) -> Iterator[str]:
+def changed_definitions_and_laws_report_lines(out: Path, folders: list[Path]) -> Iterator[str]:
     """What changed in the definitions of a crate and those below it since it was proved, and the laws that name it."""
-    for rule in changed_since_proof(out, folders):
+    for rule in new_or_changed_definitions_since_proof(out, folders):
         yield f"{rule.place}: `{rule.name}` isn't as it was when this was proved last"
-        laws = [f"{law.name} ({law.place})" for law in laws_naming(rule, folders)]
+        laws = [f"{law.name} ({law.place})" for law in laws_naming_directly_or_indirectly(rule, folders)]
         yield f"  laws that name it: {', '.join(laws) or 'none'}"

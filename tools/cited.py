@@ -11,7 +11,14 @@ from dataclasses import dataclass
 from itertools import islice
 from pathlib import Path
 
-from changed_rules import Key, SpecRule, spec_files_of, definitions_by_word, definitions_named_by, rules_in
+from changed_rules import (
+    Key,
+    SpecRule,
+    spec_file_names_and_texts,
+    own_and_imported_definitions_by_word,
+    definitions_named_by,
+    rules_in,
+)
 
 HEAD = re.compile(r"\s*(?:pub(?:\([^)]*\))? )?(?:(?:final|const|unsafe) )*fn (?P<name>\w+)[<(]")
 CLAUSE = re.compile(r"\s+(?:requires|ensures)\b")
@@ -31,15 +38,15 @@ class Contract:
     clauses: tuple[str, ...]
 
 
-def contract_at(text: str, line: int) -> Contract | None:
+def find_contract_of_function_around_line(text: str, line: int) -> Contract | None:
     """The contract of the function in which a line stands, if it has one.
 
     >>> text = "fn f(a: u8)\\n    requires { a < 2 }\\n    ensures { g a }\\n{\\n    a\\n}\\n\\nfn h() {\\n}\\n"
-    >>> contract_at(text, 5)
+    >>> find_contract_of_function_around_line(text, 5)
     Contract(function='f', line=2, clauses=('requires { a < 2 }', 'ensures { g a }'))
-    >>> contract_at(text, 1) == contract_at(text, 5)
+    >>> find_contract_of_function_around_line(text, 1) == find_contract_of_function_around_line(text, 5)
     True
-    >>> contract_at(text, 9)
+    >>> find_contract_of_function_around_line(text, 9)
     """
     lines = text.split("\n")
     heads = [(number, found["name"]) for number, it in enumerate(lines[:line]) if (found := HEAD.match(it))]
@@ -62,15 +69,15 @@ class Definitions:
         self._rules: dict[Key, SpecRule] = {}
         self._named: dict[Key, set[Key]] = {}
         for folder in folders:
-            for file, text in spec_files_of(folder):
+            for file, text in spec_file_names_and_texts(folder):
                 rules = list(rules_in(folder.name, file, text))
-                names = definitions_by_word(folder.name, file, text, {it.name for it in rules})
+                names = own_and_imported_definitions_by_word(folder.name, file, text, {it.name for it in rules})
                 self._rules.update((it.key, it) for it in rules)
                 self._named.update((it.key, definitions_named_by(it, names)) for it in rules)
 
-    def cited_by_contract(self, contract: Contract, text: str) -> Iterator[SpecRule]:
+    def cited_by_contract_transitively(self, contract: Contract, text: str) -> Iterator[SpecRule]:
         """The definitions that a contract of a file with this text names, then those that these name, and so on."""
-        names = definitions_by_word("", "", "\n".join(USE.findall(text)), set())
+        names = own_and_imported_definitions_by_word("", "", "\n".join(USE.findall(text)), set())
         level = definitions_named_by(SpecRule("", "", "", 0, " ".join(contract.clauses)), names)
         seen: set[Key] = set()
         while level:
@@ -86,7 +93,15 @@ def add_contracts_to_errors(errors: Iterable[str], definitions: Definitions, top
     for error in errors:
         found = REFUSED.match(error)
         if found or not error.startswith(("fn ", " ")):
-            now = list(contract_lines(Path(found["path"]), int(found["line"]), definitions, top)) if found else []
+            now = (
+                list(
+                    render_contract_around_line_with_citations(
+                        Path(found["path"]), int(found["line"]), definitions, top
+                    )
+                )
+                if found
+                else []
+            )
             if now != last:
                 yield from last
                 last = now
@@ -94,15 +109,20 @@ def add_contracts_to_errors(errors: Iterable[str], definitions: Definitions, top
     yield from last
 
 
-def contract_lines(file: Path, line: int, definitions: Definitions, top: Path) -> Iterator[str]:
+def render_contract_around_line_with_citations(
+    file: Path, line: int, definitions: Definitions, top: Path
+) -> Iterator[str]:
     """The lines about the contract of the function at a line of a file."""
     text = file.read_text(encoding="utf-8", errors="replace")
-    contract = contract_at(text, line)
+    contract = find_contract_of_function_around_line(text, line)
     if contract is None:
         return
     yield f"  the contract of {contract.function}:"
     yield from (f"    {it}" for it in contract.clauses)
-    cited = [f"    {it.name} ({top / it.place})" for it in islice(definitions.cited_by_contract(contract, text), MOST)]
+    cited = [
+        f"    {it.name} ({top / it.place})"
+        for it in islice(definitions.cited_by_contract_transitively(contract, text), MOST)
+    ]
     if cited:
         yield "  cites"
         yield from cited

@@ -41,7 +41,7 @@ passes with one, `./pdsuite compare --search` makes a script that sees it.
 """
 
 
-def cited_sections(line: str) -> Iterator[tuple[int, str]]:
+def sections_cited_on_first_line(line: str) -> Iterator[tuple[int, str]]:
     """The RFCs and sections that a script's first line names, but for those in parentheses."""
     for rfc, text in CITATION.findall(re.sub(r"\(.*?\)", "", line)):
         for first, last in SECTION.findall(POINT.sub("", text)):
@@ -54,7 +54,7 @@ def script_link(script: Path) -> str:
     return f"[`{script.stem}`](../{script.relative_to(SUITE.parent.parent)})"
 
 
-def rfc_lines(rfc: dict[str, Any], tests: dict[tuple[int, str], list[Path]]) -> Iterator[str]:
+def render_rfc_sections_removing_their_scripts(rfc: dict[str, Any], tests: dict[tuple[int, str], list[Path]]) -> Iterator[str]:
     yield f"\n## RFC {rfc['number']}, {rfc['title']}\n"
     for row in rfc["sections"]:
         scripts = tests.pop((rfc["number"], row["section"]), [])
@@ -73,13 +73,13 @@ def bug_lines(bugs: dict[str, list[dict[str, Any]]], scripts: dict[str, Path]) -
             yield f"- {row['bug']}: {seen + more if seen else 'none: ' + row['unseen']}"
 
 
-def page_lines() -> Iterator[str]:
+def coverage_lines_refusing_unlisted() -> Iterator[str]:
     scripts = {path.stem: path for path in sorted(SUITE.glob("*/*.pkt"), key=lambda path: path.stem)}
     data = tomllib.loads((SUITE / "coverage.toml").read_text(encoding="utf-8"))
     tests: dict[tuple[int, str], list[Path]] = {}
     for script in scripts.values():
         first, second = script.read_text(encoding="utf-8").split("\n")[:2]
-        named = dict.fromkeys(cited_sections(first))
+        named = dict.fromkeys(sections_cited_on_first_line(first))
         if not named or not second.startswith("// If it fails, "):
             raise ValueError(
                 f"{script}: the first two lines don't name a section and what is wrong if the script fails"
@@ -88,7 +88,7 @@ def page_lines() -> Iterator[str]:
             tests.setdefault(section, []).append(script)
     yield HEAD.format(count=len(scripts)).rstrip("\n")
     for rfc in data["rfc"]:
-        yield from rfc_lines(rfc, tests)
+        yield from render_rfc_sections_removing_their_scripts(rfc, tests)
     if tests:
         raise ValueError(f"coverage.toml has no section {next(iter(tests))}")
     bugs = [row for rows in data["bugs"].values() for row in rows]
@@ -98,6 +98,6 @@ def page_lines() -> Iterator[str]:
 
 if __name__ == "__main__":
     try:
-        print("\n".join(page_lines()))
+        print("\n".join(coverage_lines_refusing_unlisted()))
     except (KeyError, ValueError) as fault:
         sys.exit(f"coverage: {fault}")

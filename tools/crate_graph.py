@@ -2,7 +2,7 @@
 from __future__ import annotations
 
 
-def dependencies(table: str) -> dict[str, list[str]]:
+def parse_dependencies_between_crates(table: str) -> dict[str, list[str]]:
     """What each crate of a crates.txt stands on, crate by crate as its lines come; libraries of the kit are left out.
 
     >>> dependencies("# NAME: DEP DEP ..\\nlow:\\nhigh may_wait=1: low toml\\ntop: low,high # so\\n")
@@ -16,23 +16,23 @@ def dependencies(table: str) -> dict[str, list[str]]:
     return {crate: [it for it in below if it in named] for crate, below in named.items()}
 
 
-def libraries_below(crate: str, uses: dict[str, list[str]]) -> list[str]:
+def crates_below_one_in_build_order(crate: str, uses: dict[str, list[str]]) -> list[str]:
     """The crates that one stands on, each after those that it stands on itself.
 
-    >>> libraries_below("c", {"a": [], "b": ["a"], "c": ["b"], "d": ["a"]})
+    >>> crates_below_one_in_build_order("c", {"a": [], "b": ["a"], "c": ["b"], "d": ["a"]})
     ['a', 'b']
-    >>> libraries_below("d", {"a": [], "b": ["a"], "c": ["b", "a"], "d": ["c", "a", "b"]})
+    >>> crates_below_one_in_build_order("d", {"a": [], "b": ["a"], "c": ["b", "a"], "d": ["c", "a", "b"]})
     ['a', 'b', 'c']
     """
     seen: set[str] = set()
     found: list[str] = []
 
-    def visit(name: str) -> None:
+    def append_dependencies_without_itself(name: str) -> None:
         for low in uses[name]:
             if low not in seen:
                 seen.add(low)
-                visit(low)
+                append_dependencies_without_itself(low)
                 found.append(low)
 
-    visit(crate)
+    append_dependencies_without_itself(crate)
     return found

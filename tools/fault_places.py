@@ -21,10 +21,10 @@ LIKELY = {
 }
 
 
-def modules_of_tree(top: Path) -> dict[str, Module]:
+def read_modules_by_rattle_path(top: Path) -> dict[str, Module]:
     """The modules of a tree by their paths in Rattle, each with its file, below the tree, and its functions."""
     files = sorted((top / "crates").glob("*/src/**/*.rt"))
-    return {module_path_of(it.relative_to(top)): read_module(it, top) for it in files}
+    return {module_path_of(it.relative_to(top)): read_module_functions_with_fault_lines(it, top) for it in files}
 
 
 def module_path_of(file: Path) -> str:
@@ -37,7 +37,7 @@ def module_path_of(file: Path) -> str:
     return "::".join([crate, *(it for it in parts if it not in ("lib", "main", "mod"))])
 
 
-def read_module(file: Path, top: Path) -> Module:
+def read_module_functions_with_fault_lines(file: Path, top: Path) -> Module:
     found = list(functions_and_fault_lines(file.read_text(encoding="utf-8", errors="replace").splitlines()))
     names = [name for name, _ in found]
     # A name that several types have is known with its type alone.
@@ -61,19 +61,19 @@ def functions_and_fault_lines(lines: list[str]) -> Iterator[tuple[str, Function]
             continue
         ends = (last for last, it in enumerate(lines[first - 1 :], first) if it.rstrip() == f"{head[1]}}}")
         last = first if line.rstrip().endswith("}") else next(ends, first)
-        body = {number: code_of_line(lines[number - 1]) for number in range(first + 1, last + 1)} or {
-            first: code_of_line(line)
+        body = {number: executable_code_of_line(lines[number - 1]) for number in range(first + 1, last + 1)} or {
+            first: executable_code_of_line(line)
         }
         name = f"{block if head[1] else ''}{head[2]}"
         yield name, (first, last, {k: [n for n, it in body.items() if v.search(it)] for k, v in LIKELY.items()})
 
 
-def code_of_line(line: str) -> str:
+def executable_code_of_line(line: str) -> str:
     """A line without what it quotes and its comment; a clause of a contract is no code.
 
-    >>> code_of_line('let a = "x + y" + b; // c + d')
+    >>> executable_code_of_line('let a = "x + y" + b; // c + d')
     'let a =  + b; '
-    >>> code_of_line('    ensures { a + b ≡ c }')
+    >>> executable_code_of_line('    ensures { a + b ≡ c }')
     ''
     """
     code = COMMENT.sub("", QUOTED.sub("", line))

@@ -61,11 +61,11 @@ TRAFFIC = [
 ]
 
 
-def random_octets(dice, count):
+def random_octets_of_count(dice, count):
     return dice.randbytes(count)
 
 
-def random_pieces(dice, count):
+def random_script_pieces_in_any_order(dice, count):
     """About so many octets of what scripts are made of, in any order."""
     parts, size = [], 0
     while size < count:
@@ -75,7 +75,7 @@ def random_pieces(dice, count):
     return b"".join(parts)
 
 
-def random_traffic(dice, count):
+def random_unordered_traffic_after_setup(dice, count):
     """About so many octets of a connection with any packets and calls."""
     lines, size = list(LINES), 0
     while size < count:
@@ -92,7 +92,7 @@ def add_script_command_of(name, text):
     return add_script_command(name.decode(), text)
 
 
-def random_scripts_input(dice, make):
+def random_add_and_edit_commands_only(dice, make):
     """Scripts of up to 60,000 octets each, some of them edited."""
     parts, size, number = [], 0, 0
     while size < OCTETS:
@@ -105,13 +105,13 @@ def random_scripts_input(dice, make):
     return b"".join(parts)
 
 
-def random_commands(dice):
+def random_well_formed_command_stream(dice):
     """Commands in any order with any arguments, which a first bad one would end: each is well formed."""
     parts, size = [], 0
     while size < OCTETS:
         kind, name = dice.randrange(8), dice.choice(NAMES)
         if kind < 3:
-            part = add_script_command_of(name, random_traffic(dice, dice.randrange(1, 2_000)))
+            part = add_script_command_of(name, random_unordered_traffic_after_setup(dice, dice.randrange(1, 2_000)))
         elif kind < 5:
             lines = [dice.randbytes(dice.randrange(60)).replace(b"\n", b"") for _ in range(dice.randrange(5))]
             part = b"edit %s %d %d %d\n" % (name, dice.randrange(12), dice.randrange(4), len(lines))
@@ -127,7 +127,7 @@ def random_commands(dice):
     return b"".join(parts)
 
 
-def random_settings(dice):
+def random_settings_text(dice):
     """One settings text as long as a word can be: comments and settings, and in every other one noise."""
     keys = dice.sample(KEYS, dice.randrange(len(KEYS)))
     is_noisy = dice.random() < 0.5
@@ -146,13 +146,13 @@ def random_settings(dice):
     return b"".join(parts).replace(b"\0", b"0")[:WORD]
 
 
-def random_command_stream(dice):
+def random_command_stream_perhaps_ending_badly(dice):
     """Up to sixty commands without `show`, on scripts of up to 20,000 octets; one in five ends in what is no command."""
     parts = []
     for _ in range(dice.randrange(1, 60)):
         draw, name = dice.random(), dice.choice(NAMES)
         if draw < 0.4:
-            part = add_script_command_of(name, random_traffic(dice, dice.choice((1, 200, 2_000, 20_000))))
+            part = add_script_command_of(name, random_unordered_traffic_after_setup(dice, dice.choice((1, 200, 2_000, 20_000))))
         elif draw < 0.7:
             lines = [dice.choice((b"+0 close(4) = 0", b"+0 > . 1:1001(1000) ack 1", b"/*", b"*/", b"x"))][: dice.randrange(2)]
             part = b"edit %s %d %d %d\n" % (name, dice.randrange(12), dice.randrange(4), len(lines))
@@ -170,15 +170,15 @@ def random_command_stream(dice):
 
 
 KINDS = {
-    "octets as commands": lambda dice: [([], random_octets(dice, OCTETS))],
-    "commands": lambda dice: [([], random_commands(dice))],
-    "octets as scripts": lambda dice: [([], random_scripts_input(dice, random_octets))],
-    "pieces as scripts": lambda dice: [([], random_scripts_input(dice, random_pieces))],
-    "traffic as scripts": lambda dice: [([], random_scripts_input(dice, random_traffic))],
+    "octets as commands": lambda dice: [([], random_octets_of_count(dice, OCTETS))],
+    "commands": lambda dice: [([], random_well_formed_command_stream(dice))],
+    "octets as scripts": lambda dice: [([], random_add_and_edit_commands_only(dice, random_octets_of_count))],
+    "pieces as scripts": lambda dice: [([], random_add_and_edit_commands_only(dice, random_script_pieces_in_any_order))],
+    "traffic as scripts": lambda dice: [([], random_add_and_edit_commands_only(dice, random_unordered_traffic_after_setup))],
     "octets as settings": lambda dice: [
-        ([b"--settings", random_octets(dice, WORD).replace(b"\0", b"0")], b"") for _ in range(OCTETS // WORD)
+        ([b"--settings", random_octets_of_count(dice, WORD).replace(b"\0", b"0")], b"") for _ in range(OCTETS // WORD)
     ],
-    "settings": lambda dice: [([b"--settings", random_settings(dice)], b"") for _ in range(OCTETS // WORD)],
+    "settings": lambda dice: [([b"--settings", random_settings_text(dice)], b"") for _ in range(OCTETS // WORD)],
 }
 
 
@@ -187,7 +187,7 @@ class RunFigures:
         self.runs, self.ends, self.seconds, self.kib, self.last_kib, self.octets = 0, {}, 0.0, 0, 0, 0
 
 
-def run_timed(command, text, figures):
+def run_result_if_ended_updating_figures(command, text, figures):
     """Runs a program, its time and memory added to the figures; how it ended, or none where it came to no end."""
     with tempfile.NamedTemporaryFile() as resident:
         bound = ["timeout", str(SECONDS), "/usr/bin/time", "-f", "%M", "-o", resident.name]
@@ -202,21 +202,21 @@ def run_timed(command, text, figures):
     return ended
 
 
-def run_and_check(program, arguments, text, figures):
+def run_and_find_fault_in_result(program, arguments, text, figures):
     """One run, its figures added; what was wrong, if something was."""
     figures.runs += 1
-    ended = run_timed([program, *arguments], text, figures)
+    ended = run_result_if_ended_updating_figures([program, *arguments], text, figures)
     if ended is None:
         return "no end within %d s" % SECONDS
     figures.ends[ended.returncode] = figures.ends.get(ended.returncode, 0) + 1
-    return fault_in_result(ended.returncode, ended.stdout, ended.stderr, figures.last_kib)
+    return find_fault_in_status_output_memory(ended.returncode, ended.stdout, ended.stderr, figures.last_kib)
 
 
-def compare_with_workers(program, text, figures):
+def find_difference_with_and_without_workers(program, text, figures):
     """One stream without workers and with some; how the outputs differ, if they do."""
     outputs = []
     for workers in (0, WORKERS):
-        ended = run_timed([program, "--workers", str(workers)], text, figures)
+        ended = run_result_if_ended_updating_figures([program, "--workers", str(workers)], text, figures)
         if ended is None:
             return "no end within %d s with %d workers" % (SECONDS, workers)
         if figures.last_kib > MOST_KIB:
@@ -233,7 +233,7 @@ def compare_with_workers(program, text, figures):
     return None
 
 
-def compare_explaining(program, text, figures):
+def find_difference_with_and_without_explain(program, text, figures):
     """One stream without and with reasons; how the outputs differ, if they do."""
     plain = subprocess.run([program], input=text, capture_output=True, timeout=SECONDS)
     with open("/dev/full", "wb") as full:
@@ -241,7 +241,7 @@ def compare_explaining(program, text, figures):
     if (unread.returncode, unread.stdout) != (plain.returncode, plain.stdout):
         return "another report or status where nobody reads"
     for options in ([], ["--only", "a"], ["--json"]):
-        ended = run_timed([program, "--explain", *options], text, figures)
+        ended = run_result_if_ended_updating_figures([program, "--explain", *options], text, figures)
         if ended is None:
             return "no end within %d s with %s" % (SECONDS, options)
         if figures.last_kib > MOST_KIB:
@@ -265,7 +265,7 @@ def are_explanation_blocks(text, options):
         return False
 
 
-def check_failing_streams(program, text, workers):
+def find_fault_when_output_or_input_fails(program, text, workers):
     """One stream whose output or whose input fails; what is wrong about the fault, if something."""
     command = [program, "--workers", str(workers)]
     with open("/dev/full", "wb") as full:
@@ -282,13 +282,13 @@ def check_failing_streams(program, text, workers):
     return None
 
 
-def fuzz_workers(program, rounds, seed):
+def print_and_count_faults_with_workers(program, rounds, seed):
     """Streams without workers and with some, and streams that fail; prints a line and gives how many were wrong."""
     figures, wrong = RunFigures(), 0
     for number in range(seed, seed + rounds):
         dice = random.Random(f"beside {number}")
-        faults = [compare_with_workers(program, random_command_stream(dice), figures) for _ in range(STREAMS)]
-        faults += [check_failing_streams(program, add_script_command_of(b"a", random_traffic(dice, 200)), workers) for workers in (0, WORKERS)]
+        faults = [find_difference_with_and_without_workers(program, random_command_stream_perhaps_ending_badly(dice), figures) for _ in range(STREAMS)]
+        faults += [find_fault_when_output_or_input_fails(program, add_script_command_of(b"a", random_unordered_traffic_after_setup(dice, 200)), workers) for workers in (0, WORKERS)]
         for fault in filter(None, faults):
             wrong += 1
             print(f"with workers, seed {number}: {fault}")
@@ -300,12 +300,12 @@ def fuzz_workers(program, rounds, seed):
     return wrong
 
 
-def fuzz_explaining(program, rounds, seed):
+def print_and_count_faults_of_explaining(program, rounds, seed):
     """Streams that are explained; prints a line and gives how many were wrong."""
     figures, wrong = RunFigures(), 0
     for number in range(seed, seed + rounds):
         dice = random.Random(f"explaining {number}")
-        for fault in filter(None, (compare_explaining(program, random_command_stream(dice), figures) for _ in range(STREAMS))):
+        for fault in filter(None, (find_difference_with_and_without_explain(program, random_command_stream_perhaps_ending_badly(dice), figures) for _ in range(STREAMS))):
             wrong += 1
             print(f"explaining, seed {number}: {fault}")
     print(
@@ -315,7 +315,7 @@ def fuzz_explaining(program, rounds, seed):
     return wrong
 
 
-def fault_in_result(status, output, errors, kib):
+def find_fault_in_status_output_memory(status, output, errors, kib):
     if status not in (0, 1, 2):
         return "status %d" % status
     if status < 2 and (errors or not LAST_LINE.search(output)):
@@ -334,14 +334,14 @@ def main():
         figures = RunFigures()
         for number in range(seed, seed + rounds):
             for arguments, text in make(random.Random(f"{kind} {number}")):
-                fault = run_and_check(program, arguments, text, figures)
+                fault = run_and_find_fault_in_result(program, arguments, text, figures)
                 if fault:
                     wrong += 1
                     print(f"{kind}, seed {number}: {fault}")
         ends = ", ".join(f"{count} with status {status}" for status, count in sorted(figures.ends.items()))
         print(f"{kind}: {figures.runs} runs, {ends}; {figures.seconds:.2f} s at most, {figures.kib} KiB at most")
-    wrong += fuzz_workers(program, rounds, seed)
-    wrong += fuzz_explaining(program, rounds, seed)
+    wrong += print_and_count_faults_with_workers(program, rounds, seed)
+    wrong += print_and_count_faults_of_explaining(program, rounds, seed)
     print(f"{wrong} wrong, bound {MOST_KIB} KiB and {SECONDS} s a run")
     sys.exit(1 if wrong else 0)
 

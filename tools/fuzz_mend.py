@@ -27,7 +27,7 @@ TOP = rt_try.TOP
 sys.path.insert(0, str(TOP / "client"))
 
 from pdsuite.run.batches import Script  # noqa: E402
-from pdsuite.run.collect import find_selected_scripts, make_scripts  # noqa: E402
+from pdsuite.run.collect import find_selected_scripts_and_read_configs, suite_scripts_with_config  # noqa: E402
 from pdsuite.scripts.config import SuiteConfig, layer_of_option  # noqa: E402
 from pdsuite.scripts.settings import settings_as_toml  # noqa: E402
 from pdsuite.signals import Stop  # noqa: E402
@@ -67,14 +67,14 @@ def spoil_time(line: str, old: str, chance: random.Random) -> str | None:
     return new.ljust(width - 1) + " " + line[width:] if len(new) < width else new + " " + line[width:]
 
 
-def spoil_number(old: str, chance: random.Random, most: int | None = None) -> str:
+def other_number_with_as_many_digits(old: str, chance: random.Random, most: int | None = None) -> str:
     """Another number with as many digits, below a limit if there is one."""
     first, last = (0, 9) if len(old) == 1 else (10 ** (len(old) - 1), 10 ** len(old) - 1)
     last = last if most is None else min(last, most)
     return str(chance.choice([it for it in (chance.randint(first, last) for _ in range(20)) if it != int(old)]))
 
 
-def spoil_seq(found: re.Match[str], chance: random.Random) -> str:
+def other_sequence_range_text(found: re.Match[str], chance: random.Random) -> str:
     """Other sequence numbers: of other octets, or of more or fewer."""
     start, length = int(found["start"]), int(found["length"])
     if chance.random() < 0.5:
@@ -84,7 +84,7 @@ def spoil_seq(found: re.Match[str], chance: random.Random) -> str:
     return f"{start}:{start + length}({length})"
 
 
-def spoil_field(line: str, name: str, found: re.Match[str], chance: random.Random) -> str | None:
+def spoil_named_field(line: str, name: str, found: re.Match[str], chance: random.Random) -> str | None:
     """The line with a field made another one."""
     old = found[name]
     if name == "time":
@@ -92,13 +92,13 @@ def spoil_field(line: str, name: str, found: re.Match[str], chance: random.Rando
     if name == "flags":
         new = chance.choice([it for it in (".", "P.", "F.", "S.", "FP.", "R") if it != old])
     elif name == "options":
-        new = re.sub(r"\d+", lambda it: spoil_number(it[0], chance), old, count=1)
+        new = re.sub(r"\d+", lambda it: other_number_with_as_many_digits(it[0], chance), old, count=1)
         if new == old:
             return None
     elif name == "seq":
-        new = spoil_seq(found, chance)
+        new = other_sequence_range_text(found, chance)
     else:
-        new = spoil_number(old, chance, MOST_WIN if name == "win" else None)
+        new = other_number_with_as_many_digits(old, chance, MOST_WIN if name == "win" else None)
     return line[: found.start(name)] + new + line[found.end(name) :]
 
 
@@ -106,10 +106,10 @@ def spoil_line(line: str, chance: random.Random) -> str | None:
     """The line spoiled; nothing where nothing of it can be."""
     if packet := PACKET.match(line):
         names = [it for it in FIELDS if packet[it] is not None]
-        return spoil_field(line, chance.choice(names), packet, chance)
+        return spoil_named_field(line, chance.choice(names), packet, chance)
     if call := CALL.match(line):
         old = call["result"]
-        new = chance.choice(["5", "-1 EINVAL"]) if old.startswith("-") else spoil_number(old, chance)
+        new = chance.choice(["5", "-1 EINVAL"]) if old.startswith("-") else other_number_with_as_many_digits(old, chance)
         return line[: call.start("result")] + new + line[call.end("result") :]
     return None
 
@@ -124,7 +124,7 @@ def spoil_random_script(scripts: Sequence[Script], chance: random.Random) -> Spo
             return Spoiled(script, number, old, [*old[:number], line, *old[number + 1 :]])
 
 
-def is_same_but_for_time(one: str, other: str) -> bool:
+def is_same_but_for_time_within_tolerance(one: str, other: str) -> bool:
     """Whether two lines are the same but for times within the tolerance, or written with other digits."""
     first, second = SINGLE.match(one), SINGLE.match(other)
     if first is None or second is None or first[1] != second[1]:
@@ -133,7 +133,7 @@ def is_same_but_for_time(one: str, other: str) -> bool:
     return apart <= TOLERANCE + 1e-9 and one[first.end() :].split() == other[second.end() :].split()
 
 
-def judge_mend(it: Spoiled, answer: rt_try.TryResult) -> tuple[bool, bool, list[str]]:
+def judge_others_unchanged_and_line_restored(it: Spoiled, answer: rt_try.TryResult) -> tuple[bool, bool, list[str]]:
     """Whether only the spoiled line was changed, whether it came back, and what was made."""
     if not isinstance(answer, rt_try.TryOutput) or answer.status != 0:
         return False, False, [str(answer)]
@@ -141,11 +141,11 @@ def judge_mend(it: Spoiled, answer: rt_try.TryResult) -> tuple[bool, bool, list[
     others = len(made) == len(it.new) and all(
         one == other for number, (one, other) in enumerate(zip(made, it.new)) if number != it.number
     )
-    back = others and (made[it.number] == it.old[it.number] or is_same_but_for_time(made[it.number], it.old[it.number]))
+    back = others and (made[it.number] == it.old[it.number] or is_same_but_for_time_within_tolerance(made[it.number], it.old[it.number]))
     return others, back, made
 
 
-def case_lines(it: Spoiled, made: Sequence[str]) -> Iterator[str]:
+def render_old_spoiled_and_mended_lines(it: Spoiled, made: Sequence[str]) -> Iterator[str]:
     yield f"{it.script.path}:{it.number + 1}"
     yield f"  old {it.old[it.number]}"
     yield f"  new {it.new[it.number]}"
@@ -166,36 +166,36 @@ def main() -> int:
     suite = SuiteConfig(layer_of_option(""))
     with Stop() as stop:
         scripts = [
-            it for it in make_scripts(find_selected_scripts(options.paths, [], suite, stop), suite) if not it.fault
+            it for it in suite_scripts_with_config(find_selected_scripts_and_read_configs(options.paths, [], suite, stop), suite) if not it.fault
         ]
     chance = random.Random(options.seed)
     cases = [spoil_random_script(scripts, chance) for _ in range(options.count)]
-    judged = [judge_mend(it, answer) for it, answer in zip(cases, mend_all(cases, options.program))]
+    judged = [judge_others_unchanged_and_line_restored(it, answer) for it, answer in zip(cases, mend_by_given_or_unproved_program(cases, options.program))]
     for it, (_, back, made) in zip(cases, judged):
         if options.show and not back:
-            print(*case_lines(it, made), sep="\n")
+            print(*render_old_spoiled_and_mended_lines(it, made), sep="\n")
     others, back = sum(one for one, _, _ in judged), sum(it for _, it, _ in judged)
     print(f"{len(cases)} cases, only the line changed in {others}, its old text back in {back}")
     return 0 if back == len(cases) else 1
 
 
-def mend_all(cases: Sequence[Spoiled], program: Path | None) -> list[rt_try.TryResult]:
+def mend_by_given_or_unproved_program(cases: Sequence[Spoiled], program: Path | None) -> list[rt_try.TryResult]:
     """What the program answers to each."""
     if program is None:
-        return mend_all_unproved(cases)
+        return mend_results_by_rt_try(cases)
     with ThreadPoolExecutor() as pool:
-        return list(pool.map(lambda it: run_minimal(try_case_of(it), program), cases))
+        return list(pool.map(lambda it: run_with_minimal_option(arguments_and_input_of_spoiled(it), program), cases))
 
 
-def run_minimal(case: rt_try.TryCase, program: Path) -> rt_try.TryResult:
+def run_with_minimal_option(case: rt_try.TryCase, program: Path) -> rt_try.TryResult:
     done = subprocess.run([program, *case.arguments, b"--minimal"], input=case.given, capture_output=True)
     return rt_try.TryOutput(done.stdout, done.stderr, done.returncode)
 
 
-def mend_all_unproved(cases: Sequence[Spoiled]) -> list[rt_try.TryResult]:
+def mend_results_by_rt_try(cases: Sequence[Spoiled]) -> list[rt_try.TryResult]:
     """The same unproved. A word of a case has no newline, so settings of two keys have a build of their own."""
     groups: dict[tuple[bytes, ...], list[int]] = {}
-    runs = [try_case_of(it) for it in cases]
+    runs = [arguments_and_input_of_spoiled(it) for it in cases]
     for number, case in enumerate(runs):
         groups.setdefault(case.arguments if any(b"\n" in it for it in case.arguments) else (), []).append(number)
     found: dict[int, rt_try.TryResult] = {}
@@ -207,7 +207,7 @@ def mend_all_unproved(cases: Sequence[Spoiled]) -> list[rt_try.TryResult]:
     return [found[number] for number in range(len(cases))]
 
 
-def try_case_of(it: Spoiled) -> rt_try.TryCase:
+def arguments_and_input_of_spoiled(it: Spoiled) -> rt_try.TryCase:
     text = settings_as_toml(it.script.settings)
     arguments = (b"--settings", text.encode()) if text else ()
     return rt_try.TryCase(arguments, "".join(f"{line}\n" for line in it.new).encode())

@@ -12,17 +12,24 @@ import sys
 
 import proof_sums
 import stamps
-from copies import copy_with_settled_stamps
-from crate_graph import dependencies
+from copies import wait_until_stamps_of_copy_settle
+from crate_graph import parse_dependencies_between_crates
 from proof_sums import program_path
 from proofs import TOP
-from proving_kit import ProvingKit, ProofRefusedError, kit_with_checked_version
-from source_sums import TABLE, Unreadable, places_in_crates, sources_of_proof, files_among_places, sums_of_files
+from proving_kit import ProvingKit, ProofRefusedError, kit_whose_version_matches_its_file
+from source_sums import (
+    TABLE,
+    Unreadable,
+    paths_and_kinds_read_in_crates,
+    sources_of_proof,
+    sorted_files_among_places_or_refuse,
+    sums_of_files,
+)
 
 COUNTS = re.compile(r"(\d+) passed, (\d+) failed\b")
 
 
-def run_gate(kit: ProvingKit) -> tuple[str, int]:
+def run_gate_printing_all_but_last_line(kit: ProvingKit) -> tuple[str, int]:
     """Runs the kit's gate, hands its lines through but for the last, and gives that with the status."""
     last = ""
     with subprocess.Popen(
@@ -35,35 +42,35 @@ def run_gate(kit: ProvingKit) -> tuple[str, int]:
     return last, gate.returncode
 
 
-def keep_program_sums(programs: list[str], sums: dict[str, str], kit: ProvingKit) -> None:
+def write_program_and_source_sums_files(programs: list[str], sums: dict[str, str], kit: ProvingKit) -> None:
     """Keeps the checksums of programs and of what their proofs read beside them."""
     top = str(TOP)
     for program in programs:
         path = program_path(program)
         read = {it: sums[it] for it in sources_of_proof(top, program)}
-        proof_sums.replace_file(
+        proof_sums.replace_file_if_possible(
             f"{top}/{path}.sums", proof_sums.sums_file_text(sums_of_files(top, [path]), read, kit.name)
         )
 
 
-def run_gate_and_keep_sums() -> int:
-    kit = kit_with_checked_version()
+def run_gate_keeping_sums_whatever_status() -> int:
+    kit = kit_whose_version_matches_its_file()
     top = str(TOP)
-    crates = tuple(dependencies((TOP / TABLE).read_text()))
-    programs = {it: stamps.stamp_of(f"{top}/{program_path(it)}") for it in crates}
-    before = copy_with_settled_stamps(TOP, crates)
-    sums = sums_of_files(top, files_among_places(places_in_crates(top, crates)))
-    last, status = run_gate(kit)
+    crates = tuple(parse_dependencies_between_crates((TOP / TABLE).read_text()))
+    programs = {it: stamps.stamp_of_link_target_or_absent(f"{top}/{program_path(it)}") for it in crates}
+    before = wait_until_stamps_of_copy_settle(TOP, crates)
+    sums = sums_of_files(top, sorted_files_among_places_or_refuse(paths_and_kinds_read_in_crates(top, crates)))
+    last, status = run_gate_printing_all_but_last_line(kit)
     built = [
         it
         for it, stamp in programs.items()
-        if stamps.stamp_of(f"{top}/{program_path(it)}") not in (stamp, stamps.ABSENT)
+        if stamps.stamp_of_link_target_or_absent(f"{top}/{program_path(it)}") not in (stamp, stamps.ABSENT)
     ]
     try:
-        if changed := before.changed_path():
+        if changed := before.find_first_path_changed_since_copied():
             raise ProofRefusedError(f"{changed} has changed while rt ci ran: no program is taken for proved")
         kit.check_unchanged()
-        keep_program_sums(built, sums, kit)
+        write_program_and_source_sums_files(built, sums, kit)
     except (ProofRefusedError, Unreadable) as why:
         print(f"gate: {why}")
         last = COUNTS.sub(lambda it: f"{it[1]} passed, {int(it[2]) + 1} failed", last)
@@ -74,7 +81,7 @@ def run_gate_and_keep_sums() -> int:
 
 def main() -> int:
     try:
-        return run_gate_and_keep_sums()
+        return run_gate_keeping_sums_whatever_status()
     except (ProofRefusedError, Unreadable, OSError) as why:
         print(f"gate: {why}", file=sys.stderr)
         return 2

@@ -10,7 +10,7 @@ COMMAND = "rt"
 NAME = "KIT-ID"
 
 
-def command_of_kit() -> str | None:
+def find_kit_command_on_path() -> str | None:
     """The path of the kit's command, or None where there is none on the PATH."""
     for folder in os.environ.get("PATH", os.defpath).split(os.pathsep):
         path = os.path.join(folder, COMMAND)
@@ -19,15 +19,15 @@ def command_of_kit() -> str | None:
     return None
 
 
-def kit_id_file(command: str) -> str:
+def id_file_in_folder_of_kit(command: str) -> str:
     """The file that names the kit of a command, all links followed."""
     return os.path.join(os.path.dirname(os.path.dirname(os.path.realpath(command))), NAME)
 
 
-def kit_id_of_command(command: str) -> str:
+def read_kit_id_file_or_empty(command: str) -> str:
     """What names the kit of a command: the words of that file. Without one it is empty, which is the name of no kit."""
     try:
-        with open(kit_id_file(command), encoding="utf-8", errors="replace") as file:
+        with open(id_file_in_folder_of_kit(command), encoding="utf-8", errors="replace") as file:
             return " ".join(file.read().split())
     except OSError:
         return ""
@@ -35,5 +35,5 @@ def kit_id_of_command(command: str) -> str:
 
 def kit_id_on_path() -> str | None:
     """What names the kit that is on the PATH, or None where there is none."""
-    command = command_of_kit()
-    return None if command is None else kit_id_of_command(command)
+    command = find_kit_command_on_path()
+    return None if command is None else read_kit_id_file_or_empty(command)

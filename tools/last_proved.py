@@ -19,7 +19,7 @@ TOP = Path(__file__).resolve().parents[1]
 COMMIT = "commit"
 
 
-def kept_programs_folder() -> Path:
+def user_cache_folder_of_proved_programs() -> Path:
     """The folder of this tree."""
     cache = os.environ.get("XDG_CACHE_HOME", "")
     above = Path(cache) if os.path.isabs(cache) else Path.home() / ".cache"
@@ -29,21 +29,21 @@ def kept_programs_folder() -> Path:
 
 def keep_programs(programs: Iterable[str]) -> None:
     """Keeps copies of these programs in place of those that are kept, if that can be; no proof depends on it."""
-    kept = kept_programs_folder()
+    kept = user_cache_folder_of_proved_programs()
     beside = kept.with_name(f"{kept.name}.{os.getpid()}")
     with contextlib.suppress(OSError, RuntimeError):
         beside.mkdir(parents=True)
         try:
             for program in programs:
                 shutil.copy2(TOP / "crates" / program / "out" / program, beside)
-            (beside / COMMIT).write_text(f"{describe_commit()}\n")
+            (beside / COMMIT).write_text(f"{commit_hash_marked_if_dirty()}\n")
             shutil.rmtree(kept, ignore_errors=True)
             beside.replace(kept)
         finally:
             shutil.rmtree(beside, ignore_errors=True)
 
 
-def describe_commit() -> str:
+def commit_hash_marked_if_dirty() -> str:
     """The commit of this tree, with `-dirty` where files differ from it."""
     words = ["describe", "--always", "--dirty", "--abbrev=40", "--exclude=*"]
     said = subprocess.run(["git", "-C", TOP, *words], stdin=subprocess.DEVNULL, capture_output=True, text=True)
@@ -52,7 +52,7 @@ def describe_commit() -> str:
 
 def main() -> int:
     try:
-        kept = kept_programs_folder()
+        kept = user_cache_folder_of_proved_programs()
     except RuntimeError as error:
         print(f"last_proved: {error}", file=sys.stderr)
         return 2

@@ -46,7 +46,7 @@ class Mutant:
     changes: list[TextChange] = field(default_factory=list)
 
     @property
-    def edit_file_text(self) -> str:
+    def kit_edit_file_text(self) -> str:
         """The text of a file of its own, as the kit reads it."""
         return "".join(f"{line}\n" for line in self.lines)
 
@@ -62,19 +62,19 @@ class Reader:
     old: str = ""
     has_ended: bool = False
 
-    def read_line(self, line: str) -> None:
+    def parse_line_into_current_mutant(self, line: str) -> None:
         if line.startswith("# "):
-            self.end_mutant()
-            self.begin_mutant(line[2:])
+            self.mark_mutant_ended_refusing_incomplete()
+            self.append_mutant_of_valid_new_name(line[2:])
         elif not line:
-            self.end_mutant()
+            self.mark_mutant_ended_refusing_incomplete()
         elif self.has_ended or not self.mutants:
             raise MutantError("a line of no mutant: a title has to stand before it")
         else:
             self.mutants[-1].lines.append(line)
             self.read_field(self.mutants[-1], *line.partition(":")[::2])
 
-    def begin_mutant(self, name: str) -> None:
+    def append_mutant_of_valid_new_name(self, name: str) -> None:
         if not NAME.fullmatch(name):
             raise MutantError(f"'{name}' is no name: letters, digits, '_', '-' and '.'")
         if name in (it.name for it in self.mutants):
@@ -87,7 +87,7 @@ class Reader:
         if key == "fails" and self.need_tests and not mutant.test:
             mutant.test = value.strip()
         elif key == "file":
-            self.file = self.checked_path(value.strip())
+            self.file = self.path_in_allowed_folders_or_refuse(value.strip())
         elif key == "old" and self.file and not self.old:
             self.old = value.removeprefix(" ")
         elif key == "new" and self.old:
@@ -96,7 +96,7 @@ class Reader:
         else:
             raise MutantError(f"a line '{key}:' can't stand there")
 
-    def checked_path(self, path: str) -> str:
+    def path_in_allowed_folders_or_refuse(self, path: str) -> str:
         """The path of a file, if a mutant may change it, and no pair is left open."""
         is_allowed = path.startswith(self.folders) if self.folders else not path.startswith("/")
         if self.old or not is_allowed or ".." in path:
@@ -104,7 +104,7 @@ class Reader:
             raise MutantError(f"'file: {path}' has to name {where}, before 'old:'")
         return path
 
-    def end_mutant(self) -> None:
+    def mark_mutant_ended_refusing_incomplete(self) -> None:
         """Ends a mutant, if one has begun and not ended."""
         if not self.mutants or self.has_ended:
             return
@@ -116,13 +116,15 @@ class Reader:
         self.has_ended = True
 
 
-def read_mutants(text: str, need_tests: bool = False, folders: tuple[str, ...] = CRATE_FOLDERS) -> list[Mutant]:
+def parse_mutants_of_text(
+    text: str, need_tests: bool = False, folders: tuple[str, ...] = CRATE_FOLDERS
+) -> list[Mutant]:
     """The mutants of a text; an error has the number of its line."""
     reader = Reader(need_tests, folders)
     lines = text.removesuffix("\n").split("\n")
     for number, line in enumerate([*lines, ""], 1):
         try:
-            reader.read_line(line)
+            reader.parse_line_into_current_mutant(line)
         except MutantError as why:
             raise MutantError(f"{number}: {why}") from None
     return reader.mutants
@@ -132,8 +134,8 @@ def read_mutants_file(path: Path, is_python: bool = False) -> list[Mutant]:
     """The mutants of a file of a crate, or of Python and shell."""
     try:
         if is_python:
-            return read_mutants(path.read_bytes().decode(), True, ())
-        return read_mutants(path.read_bytes().decode(), path.name == TESTS_FILE)
+            return parse_mutants_of_text(path.read_bytes().decode(), True, ())
+        return parse_mutants_of_text(path.read_bytes().decode(), path.name == TESTS_FILE)
     except MutantError as why:
         raise MutantError(f"{path}:{why}") from None
 
@@ -149,7 +151,7 @@ def read_python_mutants(top: Path) -> dict[str, list[Mutant]]:
     return {str(file.relative_to(top)): read_mutants_file(file, is_python=True) for file in files}
 
 
-def place_of_old_text(change: TextChange, text: str, any_blanks: bool) -> tuple[int, int]:
+def find_only_span_of_old_text(change: TextChange, text: str, any_blanks: bool) -> tuple[int, int]:
     """The place of the old text, which comes just once, perhaps whatever blanks and newlines part its words."""
     pattern = r"\s+".join(map(re.escape, change.old.split())) if any_blanks else re.escape(change.old)
     found = list(re.finditer(pattern, text))
@@ -158,7 +160,7 @@ def place_of_old_text(change: TextChange, text: str, any_blanks: bool) -> tuple[
     return found[0].span()
 
 
-def changed_texts(mutant: Mutant, folder: Path) -> Iterator[tuple[Path, str]]:
+def files_and_texts_changed_by_mutant(mutant: Mutant, folder: Path) -> Iterator[tuple[Path, str]]:
     """Each file below a folder, a crate or a tree, that a mutant changes, and its text then.
 
     All old texts are looked for in the files as they are. Those of a mutant that names a test may be broken into lines.
@@ -169,7 +171,9 @@ def changed_texts(mutant: Mutant, folder: Path) -> Iterator[tuple[Path, str]]:
             raise MutantError(f"there is no file {name}")
         text = before = path.read_text()
         changes = [it for it in mutant.changes if it.file == name]
-        places = sorted(((place_of_old_text(it, before, bool(mutant.test)), it.new) for it in changes), reverse=True)
+        places = sorted(
+            ((find_only_span_of_old_text(it, before, bool(mutant.test)), it.new) for it in changes), reverse=True
+        )
         for (start, end), new in places:
             text = text[:start] + new + text[end:]
         if text == before:
@@ -179,5 +183,5 @@ def changed_texts(mutant: Mutant, folder: Path) -> Iterator[tuple[Path, str]]:
 
 def apply_mutant(mutant: Mutant, folder: Path) -> None:
     """Makes the changes of a mutant in a copy of its crate or tree."""
-    for path, text in list(changed_texts(mutant, folder)):
+    for path, text in list(files_and_texts_changed_by_mutant(mutant, folder)):
         path.write_text(text)

@@ -15,7 +15,7 @@ from pathlib import Path
 from queue import Queue
 from typing import Optional, Union
 
-from mutant_files import Mutant, MutantError, apply_mutant, changed_texts
+from mutant_files import Mutant, MutantError, apply_mutant, files_and_texts_changed_by_mutant
 from parallel import Commands
 from proofs import TOP
 
@@ -53,7 +53,7 @@ class NamedTest:
         return status == TOO_SLOW or (f"FAILED shell {self.line}:\n" in printed if self.line else status == FAILED)
 
 
-def test_command(kind: str, places: Sequence[str], tree: Path) -> tuple[Path, CommandLine]:
+def test_folder_and_command(kind: str, places: Sequence[str], tree: Path) -> tuple[Path, CommandLine]:
     """The folder and the command that run tests of a kind in a tree: several of pytest, or one file of tests/shell."""
     if kind == "shell":
         return tree, [tree / "tests" / "shell.sh", *places]
@@ -63,7 +63,7 @@ def test_command(kind: str, places: Sequence[str], tree: Path) -> tuple[Path, Co
     return tree / ("client" if kind == "client" else "."), [*command, *(f"tests/{place}" for place in places)]
 
 
-def named_test(mutant: FileMutant) -> NamedTest:
+def parse_test_kind_and_place(mutant: FileMutant) -> NamedTest:
     """The test that a mutant names."""
     kind, *places = mutant.mutant.test.split(" ")
     if kind in ("client", "tests") and len(places) == 1:
@@ -95,11 +95,11 @@ class TreeCopies:
             raise MutantError("the files of the tree aren't known: it has to be a clone, and git there")
         for number in range(count):
             tree = self.folder / f"tree{number}"
-            copy_files_into_git(files, tree)
+            copy_files_and_git_add(files, tree)
             self.idle.put(tree)
 
     @contextmanager
-    def lend_tree(self) -> Iterator[Path]:
+    def lend_tree_without_restoring(self) -> Iterator[Path]:
         """A copy that nothing else uses."""
         tree = self.idle.get()
         try:
@@ -107,9 +107,11 @@ class TreeCopies:
         finally:
             self.idle.put(tree)
 
-    def run_tests(self, kind: str, places: Sequence[str], tree: Path, line: str = "") -> tuple[int, str]:
+    def run_tests_returning_status_and_output(
+        self, kind: str, places: Sequence[str], tree: Path, line: str = ""
+    ) -> tuple[int, str]:
         """The status of tests of a kind in a copy, and what they print; of tests/shell all lines, or the named one."""
-        folder, command = test_command(kind, places, tree)
+        folder, command = test_folder_and_command(kind, places, tree)
         variables = {"PDSUITE_PROGRAMS": str(self.programs)} if self.programs else {}
         if line:
             variables["SHELL_TEST"] = line
@@ -119,7 +121,7 @@ class TreeCopies:
         return status, log.read_text(errors="replace")
 
 
-def copy_files_into_git(files: Iterable[Path], tree: Path) -> None:
+def copy_files_and_git_add(files: Iterable[Path], tree: Path) -> None:
     """Copies files of this tree to another, and adds them to git there."""
     for file in files:
         if (TOP / file).is_symlink() or (TOP / file).is_file():
@@ -132,7 +134,7 @@ def copy_files_into_git(files: Iterable[Path], tree: Path) -> None:
 @contextmanager
 def mutant_applied(mutant: FileMutant, tree: Path) -> Iterator[None]:
     """Applies a mutant to a copy, and takes it back at the end."""
-    before = {path: path.read_bytes() for path, _ in changed_texts(mutant.mutant, tree)}
+    before = {path: path.read_bytes() for path, _ in files_and_texts_changed_by_mutant(mutant.mutant, tree)}
     try:
         apply_mutant(mutant.mutant, tree)
         yield
@@ -143,10 +145,10 @@ def mutant_applied(mutant: FileMutant, tree: Path) -> Iterator[None]:
 
 def try_and_print_mutant(mutant: FileMutant, copies: TreeCopies) -> bool:
     """Applies a mutant; whether its test sees it. Prints a line."""
-    test = named_test(mutant)
+    test = parse_test_kind_and_place(mutant)
     try:
-        with copies.lend_tree() as tree, mutant_applied(mutant, tree):
-            status, printed = copies.run_tests(test.kind, [test.place], tree, test.line)
+        with copies.lend_tree_without_restoring() as tree, mutant_applied(mutant, tree):
+            status, printed = copies.run_tests_returning_status_and_output(test.kind, [test.place], tree, test.line)
     except MutantError as reason:
         print(f"{mutant.name}: {reason}", flush=True)
         return False
@@ -155,11 +157,11 @@ def try_and_print_mutant(mutant: FileMutant, copies: TreeCopies) -> bool:
     return seen
 
 
-def failure_output(tests: Sequence[NamedTest], copies: TreeCopies) -> str:
+def output_if_tests_fail_without_mutant(tests: Sequence[NamedTest], copies: TreeCopies) -> str:
     """What tests of a kind print without a mutant, if one of them doesn't pass; a line of tests/shell is run alone."""
     places = list(dict.fromkeys(it.place for it in tests))
-    with copies.lend_tree() as tree:
-        status, printed = copies.run_tests(tests[0].kind, places, tree, tests[0].line)
+    with copies.lend_tree_without_restoring() as tree:
+        status, printed = copies.run_tests_returning_status_and_output(tests[0].kind, places, tree, tests[0].line)
     return "" if all(it.passes(status, printed) for it in tests) else printed[-2000:]
 
 
@@ -173,17 +175,19 @@ def refuse_failing_tests(tests: Iterable[NamedTest], copies: TreeCopies, at_once
         parts.setdefault((it.kind, it.place, it.line) if it.line else (it.kind, "", ""), []).append(it)
     failures = [
         it
-        for it in copies.commands.map_unordered(list(parts.values()), at_once, lambda it: failure_output(it, copies))
+        for it in copies.commands.map_unordered(
+            list(parts.values()), at_once, lambda it: output_if_tests_fail_without_mutant(it, copies)
+        )
         if it
     ]
     if failures:
         raise MutantError("tests fail without a mutant:\n" + "\n".join(failures))
 
 
-def try_python_mutants(mutants: dict[str, list[Mutant]], at_once: int, copies: TreeCopies) -> int:
+def try_python_mutants_returning_status(mutants: dict[str, list[Mutant]], at_once: int, copies: TreeCopies) -> int:
     """Tries mutants, one at a time in each copy; the status is 0 if all are seen."""
     file_mutants = [FileMutant(file, mutant) for file, each in mutants.items() for mutant in each]
-    tests = [named_test(mutant) for mutant in file_mutants]
+    tests = [parse_test_kind_and_place(mutant) for mutant in file_mutants]
     copies.make_trees(at_once)
     refuse_failing_tests(tests, copies, at_once)
     seen = list(copies.commands.map_unordered(file_mutants, at_once, lambda it: try_and_print_mutant(it, copies)))

@@ -13,10 +13,10 @@ from collections.abc import Iterator
 from dataclasses import dataclass
 from pathlib import Path
 
-from crate_graph import dependencies, libraries_below
+from crate_graph import parse_dependencies_between_crates, crates_below_one_in_build_order
 from mutant_files import Mutant, MutantError, apply_mutant
 from parallel import Commands
-from proofs import TOP, copy_crates
+from proofs import TOP, copy_given_crates_without_output
 
 sys.path.insert(0, str(TOP / "tests"))
 
@@ -56,7 +56,7 @@ class RunLimits:
     commands: Commands
 
 
-def named_test(mutant: CrateMutant) -> ProgramTest:
+def program_test_named_by_mutant(mutant: CrateMutant) -> ProgramTest:
     """The test that a mutant names."""
     try:
         runs = runs_named(mutant.mutant.test)
@@ -68,8 +68,8 @@ def named_test(mutant: CrateMutant) -> ProgramTest:
 def copy_program_crates(program: str, tree: Path) -> None:
     """A tree of a program and the libraries below it."""
     (tree / ".git").mkdir(parents=True)
-    uses = dependencies((TOP / "crates.txt").read_text())
-    copy_crates([*libraries_below(program, uses), program], tree)
+    uses = parse_dependencies_between_crates((TOP / "crates.txt").read_text())
+    copy_given_crates_without_output([*crates_below_one_in_build_order(program, uses), program], tree)
 
 
 def count_failed_runs(test: ProgramTest, tree: Path, times: int, limits: RunLimits) -> int:
@@ -85,10 +85,10 @@ def count_failed_runs(test: ProgramTest, tree: Path, times: int, limits: RunLimi
     log = tree / "log"
     if limits.commands.run_command([sys.executable, "-B", TOP / "tools" / "run_cases.py", *arguments], tree, log):
         raise MutantError(f"{test.program} isn't built:\n{log.read_text(errors='replace')[-1000:]}")
-    return sum(bool(run_fault(run, read_answer(answers, name))) for name, run in runs.items())
+    return sum(bool(run_fault(run, read_case_output_errors_and_status(answers, name))) for name, run in runs.items())
 
 
-def read_answer(folder: Path, name: str) -> ProgramOutput:
+def read_case_output_errors_and_status(folder: Path, name: str) -> ProgramOutput:
     """What was answered to a case; one that didn't end has no status."""
     output, errors = ((folder / f"{name}.{kind}").read_bytes() for kind in ("output", "errors"))
     status = (folder / f"{name}.status").read_text()
@@ -130,14 +130,14 @@ def try_and_print_mutant(mutant: CrateMutant, test: ProgramTest, limits: RunLimi
     return failed == count
 
 
-def try_test_mutants(mutants: dict[str, list[Mutant]], at_once: int, limits: RunLimits) -> int:
+def try_test_mutants_returning_status(mutants: dict[str, list[Mutant]], at_once: int, limits: RunLimits) -> int:
     """Tries the mutants of some crates, each in a copy of its own; the status is 0 if all are seen."""
     crate_mutants = [CrateMutant(crate, mutant) for crate, each in mutants.items() for mutant in each]
-    with_tests = [(mutant, named_test(mutant)) for mutant in crate_mutants]
+    with_tests = [(mutant, program_test_named_by_mutant(mutant)) for mutant in crate_mutants]
     try:
         refuse_failing_tests([test for _, test in with_tests], limits)
     except BaseException:
-        limits.commands.stop_all()
+        limits.commands.stop_all_and_refuse_new()
         raise
     seen = list(limits.commands.map_unordered(with_tests, at_once, lambda it: try_and_print_mutant(*it, limits)))
     print(f"{sum(seen)} seen, {len(seen) - sum(seen)} not seen")

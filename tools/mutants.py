@@ -25,10 +25,10 @@ import tempfile
 from pathlib import Path
 
 import signals
-from mutant_contracts import crates_at_once, try_contract_mutants
+from mutant_contracts import crates_at_once_by_cpus_and_memory, try_contract_mutants_returning_status
 from mutant_files import Mutant, MutantError, read_crate_mutants, read_python_mutants
-from mutant_python import TreeCopies, try_python_mutants
-from mutant_tests import RunLimits, try_test_mutants
+from mutant_python import TreeCopies, try_python_mutants_returning_status
+from mutant_tests import RunLimits, try_test_mutants_returning_status
 from parallel import Commands
 from proofs import TOP
 from rt_try import NotRunError, check_kit_on_path
@@ -37,7 +37,7 @@ from rt_try import NotRunError, check_kit_on_path
 CONTRACTS, TESTS, PYTHON = "contracts", "tests", "python"
 
 
-def chosen_mutants(options: argparse.Namespace) -> dict[str, list[Mutant]]:
+def mutants_of_chosen_places_and_names(options: argparse.Namespace) -> dict[str, list[Mutant]]:
     """The mutants that the options choose, by their crates or files."""
     is_python = options.kind == PYTHON
     mutants = read_python_mutants(TOP) if is_python else read_crate_mutants(TOP, options.kind)
@@ -54,7 +54,7 @@ def chosen_mutants(options: argparse.Namespace) -> dict[str, list[Mutant]]:
     return {place: each for place, each in mutants.items() if each}
 
 
-def positive(text: str) -> int:
+def positive_integer(text: str) -> int:
     """A number from 1 on."""
     number = int(text)
     if number < 1:
@@ -68,36 +68,40 @@ def make_parser() -> argparse.ArgumentParser:
     kinds = whole.add_subparsers(dest="kind", required=True, metavar="|".join((CONTRACTS, TESTS, PYTHON)))
     for kind in (CONTRACTS, TESTS, PYTHON):
         options = kinds.add_parser(kind, allow_abbrev=False)
-        options.add_argument("-j", dest="at_once", type=positive, help="how many are tried at once")
+        options.add_argument("-j", dest="at_once", type=positive_integer, help="how many are tried at once")
         options.add_argument(
             "--name", dest="names", action="append", default=[], help="a mutant to try, of these alone"
         )
         if kind == TESTS:
-            options.add_argument("--times", type=positive, default=10, help="how often each test is run (10)")
+            options.add_argument("--times", type=positive_integer, default=10, help="how often each test is run (10)")
             options.add_argument(
-                "--seconds", type=positive, default=40, help="how long one run of a test may take (40)"
+                "--seconds", type=positive_integer, default=40, help="how long one run of a test may take (40)"
             )
         if kind == PYTHON:
             options.add_argument("--programs", metavar="FOLDER", type=Path, help="the programs that are tested")
-            options.add_argument("--seconds", type=positive, default=600, help="how long a test may take (600)")
+            options.add_argument("--seconds", type=positive_integer, default=600, help="how long a test may take (600)")
         options.add_argument("places", metavar="FILE" if kind == PYTHON else "CRATE", nargs="*")
     return whole
 
 
 def try_chosen_mutants(options: argparse.Namespace) -> int:
-    mutants = chosen_mutants(options)
+    mutants = mutants_of_chosen_places_and_names(options)
     if options.kind != PYTHON:
         check_kit_on_path()
     with tempfile.TemporaryDirectory(prefix="mutants-") as folder:
         work = Path(folder)
         os.environ["TMPDIR"] = str(work)
         if options.kind == CONTRACTS:
-            return try_contract_mutants(mutants, options.at_once or crates_at_once(), work)
+            return try_contract_mutants_returning_status(
+                mutants, options.at_once or crates_at_once_by_cpus_and_memory(), work
+            )
         at_once = options.at_once or len(os.sched_getaffinity(0))
         if options.kind == PYTHON:
             programs = options.programs and options.programs.absolute()
-            return try_python_mutants(mutants, at_once, TreeCopies(work, options.seconds, programs))
-        return try_test_mutants(mutants, at_once, RunLimits(options.times, options.seconds, work, Commands()))
+            return try_python_mutants_returning_status(mutants, at_once, TreeCopies(work, options.seconds, programs))
+        return try_test_mutants_returning_status(
+            mutants, at_once, RunLimits(options.times, options.seconds, work, Commands())
+        )
 
 
 def main() -> int:

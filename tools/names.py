@@ -41,7 +41,7 @@ class ScannedText:
         return ".sh" if self.text.startswith("#!/bin/sh") else Path(self.path).suffix
 
 
-def git_text_files() -> Iterator[ScannedText]:
+def read_all_git_files_as_text() -> Iterator[ScannedText]:
     """The files that git has and that are text."""
     listed = subprocess.run(["git", "ls-files", "-z"], cwd=TOP, capture_output=True, check=True).stdout
     for path in map(TOP.joinpath, filter(None, listed.decode().split("\0"))):
@@ -81,7 +81,7 @@ def prose_in(text: ScannedText) -> Iterator[tuple[int, str]]:
             yield from ((number, found[1]) for found in comment.finditer(line))
 
 
-def repeated_nouns(
+def place_and_repeated_type_name_pairs(
     files: list[ScannedText], explained: dict[str, str], second: dict[str, str]
 ) -> Iterator[tuple[str, str]]:
     """The places of each noun that names more than one type; second readings have the nouns of the first ones."""
@@ -94,7 +94,7 @@ def repeated_nouns(
             yield from ((place, noun) for place in each)
 
 
-def words_to_avoid_in(
+def words_to_avoid_in_prose_of(
     files: list[ScannedText], words: dict[str, str], explained: dict[str, str]
 ) -> Iterator[tuple[str, str]]:
     """The places of the words that prose is to avoid, each with what to write instead."""
@@ -111,9 +111,9 @@ def words_to_avoid_in(
 def main() -> int:
     with (TOP / "tools" / "names.toml").open("rb") as file:
         table = tomllib.load(file)
-    files = list(git_text_files())
-    nouns = repeated_nouns(files, table["nouns"], table["second_readings"])
-    left = [*nouns, *words_to_avoid_in(files, table["words"], table["explained"])]
+    files = list(read_all_git_files_as_text())
+    nouns = place_and_repeated_type_name_pairs(files, table["nouns"], table["second_readings"])
+    left = [*nouns, *words_to_avoid_in_prose_of(files, table["words"], table["explained"])]
     for place, word in left:
         print(f"{place}: {word}")
     return 1 if left else 0

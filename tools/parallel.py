@@ -50,7 +50,7 @@ class Commands:
                 with self.lock:
                     self.running.discard(process)
 
-    def stop_all(self) -> None:
+    def stop_all_and_refuse_new(self) -> None:
         """Ends those that run, and lets none begin."""
         with self.lock:
             self.is_stopped = True
@@ -65,7 +65,7 @@ class Commands:
             for future in as_completed([pool.submit(do, item) for item in items]):
                 yield future.result()
         except BaseException:
-            self.stop_all()
+            self.stop_all_and_refuse_new()
             raise
         finally:
             pool.shutdown(cancel_futures=True)

@@ -11,16 +11,16 @@ import sys
 from collections.abc import Iterator
 
 import stamps
-from kit import command_of_kit, kit_id_file, kit_id_on_path
+from kit import find_kit_command_on_path, id_file_in_folder_of_kit, kit_id_on_path
 from source_sums import (
     HANDLES,
     TABLE,
     NoFile,
     Unreadable,
-    checksum_lines,
-    places_of_proof,
-    files_among_places,
-    sums_of_proof,
+    checksum_lines_in_given_order,
+    paths_and_kinds_read_by_proof,
+    sorted_files_among_places_or_refuse,
+    proof_source_sums_by_path,
     sums_of_files,
 )
 
@@ -37,20 +37,20 @@ def program_path(program: str) -> str:
 
 def sums_file_text(program: dict[str, str], read: dict[str, str], name: str) -> bytes:
     """What is kept: the checksum of a program, those of what its proof read, and what names the kit."""
-    return checksum_lines({**program, **read}) + kit_line(name)
+    return checksum_lines_in_given_order({**program, **read}) + kit_line(name)
 
 
 def kit_line(name: str) -> bytes:
     return KIT + os.fsencode(name) + b"\n" if name else b""
 
 
-def kit_in_sums(kept: bytes) -> str:
+def kit_in_sums_or_empty(kept: bytes) -> str:
     """What names the kit in what is kept, or nothing."""
     last = kept[kept[:-1].rfind(b"\n") + 1 : -1]
     return os.fsdecode(last[len(KIT) :]) if last.startswith(KIT) else ""
 
 
-def is_proved(top: str, program: str) -> bool:
+def is_proved_keeping_stamps(top: str, program: str) -> bool:
     """Whether a program is proved, and all is as its proof read it. If so, the stamps of all are kept, if that can be.
 
     Raises Unreadable where no proof could read it now.
@@ -58,19 +58,30 @@ def is_proved(top: str, program: str) -> bool:
     path = program_path(program)
     kept = read_or_empty(f"{top}/{path}.sums")
     here = kit_id_on_path()
-    name = kit_in_sums(kept) if here is None else here
+    name = kit_in_sums_or_empty(kept) if here is None else here
     if not name or not os.access(f"{top}/{path}", os.X_OK):
         return False
-    places = list(places_of_proof(top, program))
+    places = list(paths_and_kinds_read_by_proof(top, program))
     looked_at = list(dict.fromkeys([*MADE_BY, path, f"{path}.sums", TABLE, HANDLES, *(it for it, _ in places)]))
     before = stamps.stamps_of(top, looked_at)
-    probe = stamps.make_probe(os.path.dirname(f"{top}/{path}"))
-    if sums_file_text(sums_of_files(top, [path]), sums_of_files(top, files_among_places(places)), name) != kept:
+    probe = stamps.probe_file_system_clock_by_new_file(os.path.dirname(f"{top}/{path}"))
+    if (
+        sums_file_text(
+            sums_of_files(top, [path]), sums_of_files(top, sorted_files_among_places_or_refuse(places)), name
+        )
+        != kept
+    ):
         return False
-    if probe and stamps.are_settled(before, probe) and places == list(places_of_proof(top, program)):
+    if (
+        probe
+        and stamps.would_later_changes_alter_each_stamp(before, probe)
+        and places == list(paths_and_kinds_read_by_proof(top, program))
+    ):
         # What was read is what has these stamps only where all still have them.
         if before == stamps.stamps_of(top, looked_at):
-            replace_file(f"{top}/{path}.stamps", stamps.stamps_file_text(program, name, before))
+            replace_file_if_possible(
+                f"{top}/{path}.stamps", stamps.nul_separated_stamps_file_octets(program, name, before)
+            )
     return True
 
 
@@ -81,7 +92,7 @@ def read_or_empty(path: str) -> bytes:
     return b""
 
 
-def replace_file(path: str, octets: bytes) -> None:
+def replace_file_if_possible(path: str, octets: bytes) -> None:
     """Puts a file in the place of what is there, if that can be."""
     fresh = f"{path}.{os.getpid()}"
     with contextlib.suppress(OSError):
@@ -94,19 +105,21 @@ def paths_deciding_proof(top: str, program: str) -> Iterator[str]:
     """The whole paths of all on which it depends whether a program is proved, also of what isn't there."""
     path = program_path(program)
     yield from (f"{top}/{it}" for it in (TABLE, HANDLES, path, f"{path}.sums"))
-    command = command_of_kit()
+    command = find_kit_command_on_path()
     if command is not None:
-        yield from (os.path.abspath(command), kit_id_file(command))
+        yield from (os.path.abspath(command), id_file_in_folder_of_kit(command))
     with contextlib.suppress(Unreadable):
-        yield from (f"{top}/{it}" for it, _ in places_of_proof(top, program) if it not in (TABLE, HANDLES))
+        yield from (
+            f"{top}/{it}" for it, _ in paths_and_kinds_read_by_proof(top, program) if it not in (TABLE, HANDLES)
+        )
 
 
-def print_answer(top: str, arguments: list[str]) -> int:
+def print_program_path_sums_or_files(top: str, arguments: list[str]) -> int:
     """Prints the answer of tools/proved_program.sh to [--sums | --files] NAME, and gives the status."""
     *options, program = arguments
     message = f"{program} isn't proved and built, or has changed since: run ./prove {program}"
     try:
-        octets = output_for_options(options, top, program)
+        octets = path_sums_or_files_to_print(options, top, program)
     except NoFile as why:
         octets, message = b"", f"{program} isn't proved: {why}"
     except Unreadable as why:
@@ -118,10 +131,10 @@ def print_answer(top: str, arguments: list[str]) -> int:
     return 0
 
 
-def output_for_options(options: list[str], top: str, program: str) -> bytes:
+def path_sums_or_files_to_print(options: list[str], top: str, program: str) -> bytes:
     """What is printed with these options: nothing where a program isn't proved."""
     if options == ["--files"]:
         return b"".join(os.fsencode(it) + b"\0" for it in paths_deciding_proof(top, program))
     if options == ["--sums"]:
-        return checksum_lines(sums_of_proof(top, program)) + kit_line(kit_id_on_path() or "")
-    return os.fsencode(f"{top}/{program_path(program)}\n") if is_proved(top, program) else b""
+        return checksum_lines_in_given_order(proof_source_sums_by_path(top, program)) + kit_line(kit_id_on_path() or "")
+    return os.fsencode(f"{top}/{program_path(program)}\n") if is_proved_keeping_stamps(top, program) else b""

@@ -28,7 +28,7 @@ from threading import Lock
 from typing import TYPE_CHECKING, NamedTuple, Tuple
 
 from copies import Copy
-from crate_graph import dependencies, libraries_below
+from crate_graph import parse_dependencies_between_crates, crates_below_one_in_build_order
 
 if TYPE_CHECKING:
     import psutil
@@ -70,12 +70,12 @@ class Lane:
     def tree(self) -> Path:
         return self.copy.tree
 
-    def out_folder(self, crate: str) -> Path:
+    def out_folder_of_crate_in_lane(self, crate: str) -> Path:
         return self.tree / "crates" / crate / "out"
 
     def call_rt(self, crate: str, *words: str) -> int:
         """Calls rt on a crate, in a session of its own, and gives its status; the crate's log has its output."""
-        out = self.out_folder(crate)
+        out = self.out_folder_of_crate_in_lane(crate)
         out.mkdir(parents=True, exist_ok=True)
         log_file = out / "build.log"
         log_file.unlink(missing_ok=True)
@@ -96,19 +96,19 @@ class Lane:
         log_file.write_bytes(log_file.read_bytes().replace(os.fsencode(self.tree), os.fsencode(TOP)))
         return status
 
-    def prove_library(self, library: str) -> None:
+    def prove_library_or_raise(self, library: str) -> None:
         if self.call_rt(library, "lib", *self.flags):
             raise Unproved(library)
 
-    def prove_program(self, program: str) -> None:
-        built = self.out_folder(program) / program
+    def prove_program_or_raise(self, program: str) -> None:
+        built = self.out_folder_of_crate_in_lane(program) / program
         built.unlink(missing_ok=True)
         # Its status is that of a run without input, too.
         self.call_rt(program, "run", *self.flags)
         if not os.access(built, os.X_OK):
             raise Unproved(program)
 
-    def stop(self) -> None:
+    def stop_and_refuse_new(self) -> None:
         """Ends what runs here, and lets nothing be begun any more."""
         with self.lock:
             self.is_stopped = True
@@ -118,7 +118,7 @@ class Lane:
             self.proving.wait()
 
 
-def hand_over_parts(source: Path, to: Path, folder: Path) -> None:
+def replace_all_parts_linking_or_copying(source: Path, to: Path, folder: Path) -> None:
     """Puts the parts of a folder, lanes apart, in another place, by hard links if possible, instead of what is there.
 
     Each part is made first in a further folder of the same file system, so that who is killed leaves either whole.
@@ -127,10 +127,10 @@ def hand_over_parts(source: Path, to: Path, folder: Path) -> None:
         return
     to.mkdir(parents=True, exist_ok=True)
     for part in (it for it in source.iterdir() if not it.name.startswith(LANE)):
-        replace_part(part, to / part.name, folder)
+        replace_path_by_links_or_copy(part, to / part.name, folder)
 
 
-def replace_part(part: Path, to: Path, folder: Path) -> None:
+def replace_path_by_links_or_copy(part: Path, to: Path, folder: Path) -> None:
     """Puts a folder or a file in another place, instead of what stands there."""
     fresh, before = folder / "fresh", folder / "before"
     for left in (fresh, before):
@@ -169,7 +169,7 @@ def lock_crate(crate: str, waits: bool = True) -> Iterator[bool]:
         os.close(folder)
 
 
-def copy_crates(crates: list[str], tree: Path) -> None:
+def copy_given_crates_without_output(crates: list[str], tree: Path) -> None:
     """Makes a tree of these crates alone, without what is kept of them."""
     lines = (TOP / "crates.txt").read_text().splitlines(keepends=True)
     (tree / "crates.txt").write_text("".join(it for it in lines if it.partition(":")[0].partition(" ")[0] in crates))
@@ -178,7 +178,7 @@ def copy_crates(crates: list[str], tree: Path) -> None:
         shutil.copytree(TOP / "crates" / crate, tree / "crates" / crate, ignore=shutil.ignore_patterns("out"))
 
 
-def number_in_file(file: str, pattern: str) -> int | None:
+def find_number_matching_pattern_in_file(file: str, pattern: str) -> int | None:
     """The number of the line that fits a pattern, if there are the file and the line."""
     with contextlib.suppress(OSError):
         found = re.search(pattern, Path(file).read_text(), re.MULTILINE)
@@ -188,9 +188,9 @@ def number_in_file(file: str, pattern: str) -> int | None:
 
 def free_memory() -> int:
     """The octets that may still be taken here, within the limit of the group of processes too."""
-    free = 1024 * (number_in_file("/proc/meminfo", r"^MemAvailable:\s+(\d+)") or 0)
-    limit = number_in_file("/sys/fs/cgroup/memory.max", r"^(\d+)$")
-    taken = number_in_file("/sys/fs/cgroup/memory.stat", r"^anon (\d+)$")
+    free = 1024 * (find_number_matching_pattern_in_file("/proc/meminfo", r"^MemAvailable:\s+(\d+)") or 0)
+    limit = find_number_matching_pattern_in_file("/sys/fs/cgroup/memory.max", r"^(\d+)$")
+    taken = find_number_matching_pattern_in_file("/sys/fs/cgroup/memory.stat", r"^anon (\d+)$")
     return free if limit is None else min(free, limit - (taken or 0))
 
 
@@ -219,21 +219,21 @@ class Times:
             return Times({str(it): float(seconds) for it, seconds in kept.items()})
         return Times()
 
-    def expected_seconds(self, uses: dict[str, list[str]]) -> dict[str, float]:
+    def expected_seconds_by_crate(self, uses: dict[str, list[str]]) -> dict[str, float]:
         """The seconds that each crate takes as it is now, the crates being in the order of crates.txt."""
         changed: dict[str, float] = {}
         octets: dict[str, int] = {}
         found: dict[str, float] = {}
         for crate, below in uses.items():
-            files = [it.stat() for it in proof_sources(crate)]
+            files = [it.stat() for it in own_source_paths_of_crate(crate)]
             octets[crate] = sum(it.st_size for it in files)
             changed[crate] = max([it.st_mtime for it in files] + [changed.get(it, 0.0) for it in below])
-            if changed[crate] <= time_of_proof(TOP / "crates" / crate / "out"):
+            if changed[crate] <= moment_of_last_proof_or_zero(TOP / "crates" / crate / "out"):
                 found[crate] = STANDING
             else:
-                whole = sum(octets.get(it, 0) for it in libraries_below(crate, uses))
+                whole = sum(octets.get(it, 0) for it in crates_below_one_in_build_order(crate, uses))
                 guess = EACH + EACH_OCTET * octets[crate] + EACH_OCTET_BELOW * whole
-                key = times_key_of(crate)
+                key = times_key_by_whether_incremental_is_kept(crate)
                 found[crate] = self.seconds.get(key, guess if key == crate else AGAIN * guess)
         return found
 
@@ -248,14 +248,14 @@ class Times:
             fresh.replace(file)
 
 
-def proof_sources(crate: str) -> Iterator[Path]:
+def own_source_paths_of_crate(crate: str) -> Iterator[Path]:
     """The files that the proof of a crate reads."""
     for folder in ("src", "specs", "proofs"):
         for kind in ("*.rt", "*.antt"):
             yield from (TOP / "crates" / crate / folder).rglob(kind)
 
 
-def time_of_proof(out: Path) -> float:
+def moment_of_last_proof_or_zero(out: Path) -> float:
     """When a crate was built last, which it is once it is proved, by its folder of what is kept."""
     for built in (out / "rlib" / "stamp", out / out.parent.name):
         with contextlib.suppress(OSError):
@@ -263,18 +263,18 @@ def time_of_proof(out: Path) -> float:
     return 0.0
 
 
-def times_key_of(crate: str) -> str:
+def times_key_by_whether_incremental_is_kept(crate: str) -> str:
     """What the times call a proof of a crate: one over what is kept is another than one from nothing."""
     kept = TOP / "crates" / crate / "out" / "incremental"
     return f"{crate} again" if kept.is_dir() else crate
 
 
-def remaining_in_words(crates: int, seconds: float) -> str:
+def remaining_crates_and_minutes_in_words(crates: int, seconds: float) -> str:
     """What is left, in words.
 
-    >>> remaining_in_words(24, 1561.0)
+    >>> remaining_crates_and_minutes_in_words(24, 1561.0)
     '24 crates and about 26 minutes'
-    >>> remaining_in_words(1, 59.0)
+    >>> remaining_crates_and_minutes_in_words(1, 59.0)
     '1 crate and less than a minute'
     """
     minutes = round(seconds / 60)
@@ -300,12 +300,12 @@ class SeenProcesses:
     clock: dict[str, float] = field(default_factory=lambda: defaultdict(float))
 
 
-def work_of_process(words: list[str], folder: str) -> Work | None:
+def crate_and_kind_of_work_of_process(words: list[str], folder: str) -> Work | None:
     """What a process does, by its words and its folder; none where these tell nothing.
 
-    >>> work_of_process(["rattle", "build", "--crate-name", "pd_lex"], "/tmp/x/crates/pd_lex")
+    >>> crate_and_kind_of_work_of_process(["rattle", "build", "--crate-name", "pd_lex"], "/tmp/x/crates/pd_lex")
     ('pd_lex', 'proof')
-    >>> work_of_process(["rattle", "check", "--crate-name", "pd_lex"], "/tmp/rt-edit-7-x1")
+    >>> crate_and_kind_of_work_of_process(["rattle", "check", "--crate-name", "pd_lex"], "/tmp/rt-edit-7-x1")
     ('pd_lex', 'edits')
     """
     if ran := next((it for it in words if re.match(r".*/rt-run-[^/]+/bin/", it)), ""):
@@ -316,7 +316,7 @@ def work_of_process(words: list[str], folder: str) -> Work | None:
     return (os.path.basename(folder), "proof") if re.search(r"/crates/\w+$", folder) else None
 
 
-def look_at_processes(seen: SeenProcesses, root: psutil.Process, now: float, passed: float) -> None:
+def record_work_and_time_of_process_tree(seen: SeenProcesses, root: psutil.Process, now: float, passed: float) -> None:
     """Looks at a process and those below it, at a moment by the clock, so many seconds after the last look."""
     import psutil
 
@@ -326,7 +326,7 @@ def look_at_processes(seen: SeenProcesses, root: psutil.Process, now: float, pas
         with contextlib.suppress(psutil.Error):
             parent = found.get(it.ppid())
             known = [one.work for one in map(seen.processes.get, (it, parent)) if one and one.work]
-            work = known[0] if known else work_of_process(it.cmdline(), it.cwd())
+            work = known[0] if known else crate_and_kind_of_work_of_process(it.cmdline(), it.cwd())
             used = it.cpu_times()
             seen.processes[it] = Used(work, parent, sum(used[:2]), sum(used[2:4]))
             works |= {work} if work else set()
@@ -336,7 +336,7 @@ def look_at_processes(seen: SeenProcesses, root: psutil.Process, now: float, pas
         seen.clock[crate] += passed
 
 
-def seconds_by_crate(seen: SeenProcesses) -> dict[str, float]:
+def processor_seconds_by_crate(seen: SeenProcesses) -> dict[str, float]:
     """The processor seconds of each crate: of its processes, and of their children that ended between two looks."""
     by_children: dict[psutil.Process, float] = defaultdict(float)
     seconds: dict[str, float] = defaultdict(float)
@@ -348,11 +348,11 @@ def seconds_by_crate(seen: SeenProcesses) -> dict[str, float]:
     return dict(sorted(seconds.items(), key=lambda it: -it[1]))
 
 
-def longest_chain(spans: dict[Work, tuple[float, float]], uses: dict[str, list[str]]) -> list[Work]:
+def critical_path_to_last_ended_work(spans: dict[Work, tuple[float, float]], uses: dict[str, list[str]]) -> list[Work]:
     """What ended last, and what it waited for, first to last: edits for the proof, a proof for those of crates below.
 
     >>> spans = {("a", "proof"): (1, 5), ("b", "proof"): (1, 4), ("c", "proof"): (6, 9), ("c", "edits"): (9, 30)}
-    >>> longest_chain(spans, {"a": [], "b": [], "c": ["a", "b"]})
+    >>> critical_path_to_last_ended_work(spans, {"a": [], "b": [], "c": ["a", "b"]})
     [('a', 'proof'), ('c', 'proof'), ('c', 'edits')]
     """
     chain: list[Work] = []
@@ -365,15 +365,17 @@ def longest_chain(spans: dict[Work, tuple[float, float]], uses: dict[str, list[s
     return chain
 
 
-def cost_lines(seen: SeenProcesses, uses: dict[str, list[str]], processor: float, clock: float) -> Iterator[str]:
-    seconds = {crate: it for crate, it in seconds_by_crate(seen).items() if crate in uses}
+def crate_minutes_and_longest_chain_lines(
+    seen: SeenProcesses, uses: dict[str, list[str]], processor: float, clock: float
+) -> Iterator[str]:
+    seconds = {crate: it for crate, it in processor_seconds_by_crate(seen).items() if crate in uses}
     rest = processor - sum(seconds.values())
     yield "minutes of processors and by the clock:"
     crates = [(*it, seen.clock[it[0]]) for it in seconds.items()]
     for name, used, gone in [*crates, ("of no crate", rest, 0.0), ("all", processor, clock)]:
         yield f"{used / 60:8.1f} {gone / 60:8.1f}  {name}"
     yield "the longest chain, from when to when by the clock:"
-    for work in longest_chain(seen.spans, uses):
+    for work in critical_path_to_last_ended_work(seen.spans, uses):
         yield "{:8.1f} {:8.1f}  {} {}".format(*(it / 60 for it in seen.spans[work]), *work)
 
 
@@ -385,11 +387,16 @@ def run_and_print_cost(command: list[str], clone: Path) -> int:
     started = subprocess.Popen(command, cwd=clone, stdin=subprocess.DEVNULL, stdout=sys.stderr)
     while started.poll() is None:
         before, now = now, time.monotonic() - began
-        look_at_processes(seen, psutil.Process(started.pid), now, now - before)
+        record_work_and_time_of_process_tree(seen, psutil.Process(started.pid), now, now - before)
         time.sleep(0.5)
     used = os.times()
-    uses = dependencies((clone / "crates.txt").read_text())
-    print(*cost_lines(seen, uses, used.children_user + used.children_system, time.monotonic() - began), sep="\n")
+    uses = parse_dependencies_between_crates((clone / "crates.txt").read_text())
+    print(
+        *crate_minutes_and_longest_chain_lines(
+            seen, uses, used.children_user + used.children_system, time.monotonic() - began
+        ),
+        sep="\n",
+    )
     return started.returncode
 
 

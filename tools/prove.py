@@ -34,10 +34,10 @@ from pathlib import Path
 import proof_sums
 import proving_kit
 import signals
-from changed_rules import change_report_lines, keep_definitions
+from changed_rules import changed_definitions_and_laws_report_lines, write_definitions_of_last_proof
 from cited import Definitions, add_contracts_to_errors
-from copies import copy_proof_sources
-from crate_graph import dependencies, libraries_below
+from copies import copy_to_trees_returning_checksums
+from crate_graph import parse_dependencies_between_crates, crates_below_one_in_build_order
 from last_proved import keep_programs
 from proofs import (
     JOBS,
@@ -46,16 +46,23 @@ from proofs import (
     Lane,
     Times,
     Unproved,
-    remaining_in_words,
-    hand_over_parts,
+    remaining_crates_and_minutes_in_words,
+    replace_all_parts_linking_or_copying,
     fits_two_lanes,
     lock_crate,
-    times_key_of,
-    time_of_proof,
+    times_key_by_whether_incremental_is_kept,
+    moment_of_last_proof_or_zero,
 )
 from prove_errors import errors_in_log
 from proving_kit import ProvingKit, ProofRefusedError
-from source_sums import TABLE, Unreadable, places_in_crates, sources_of_proof, files_among_places, sums_of_files
+from source_sums import (
+    TABLE,
+    Unreadable,
+    paths_and_kinds_read_in_crates,
+    sources_of_proof,
+    sorted_files_among_places_or_refuse,
+    sums_of_files,
+)
 
 
 # The last message about a proof that was refused.
@@ -93,20 +100,24 @@ class Work:
     proved: set[str] = field(default_factory=set)
     running: dict[Future[None], RunningProof] = field(default_factory=dict)
 
-    def print_crate_begun(self, crate: str, lanes: int) -> None:
+    def print_crate_begun_and_what_is_left(self, crate: str, lanes: int) -> None:
         """Prints that a crate is begun, and what is left."""
         left = {*self.waiting, crate, *(it.crate for it in self.running.values())}
-        seconds = max([sum(map(self.expected.__getitem__, left)) / lanes, *map(self.seconds_of_chain_above, left)])
-        print_message(f"proving {crate}; {remaining_in_words(len(left), seconds)} are left")
+        seconds = max(
+            [sum(map(self.expected.__getitem__, left)) / lanes, *map(self.seconds_of_crate_and_chain_above, left)]
+        )
+        print_message(f"proving {crate}; {remaining_crates_and_minutes_in_words(len(left), seconds)} are left")
 
-    def next_crate(self) -> str | None:
+    def find_ready_crate_with_longest_chain(self) -> str | None:
         """Of the crates whose libraries are proved the one with the longest chain of others above it."""
         ready = [it for it in self.waiting if self.proved.issuperset(self.uses[it])]
-        return max(ready, key=self.seconds_of_chain_above) if ready else None
+        return max(ready, key=self.seconds_of_crate_and_chain_above) if ready else None
 
-    def seconds_of_chain_above(self, crate: str) -> float:
+    def seconds_of_crate_and_chain_above(self, crate: str) -> float:
         """The seconds of a crate and the longest chain of others above it."""
-        above = max((self.seconds_of_chain_above(it) for it in self.waiting if crate in self.uses[it]), default=0.0)
+        above = max(
+            (self.seconds_of_crate_and_chain_above(it) for it in self.waiting if crate in self.uses[it]), default=0.0
+        )
         return self.expected[crate] + above
 
     def prove_all(self, lanes: list[Lane]) -> None:
@@ -116,67 +127,73 @@ class Work:
             while self.waiting or self.running:
                 self.fill_free_lanes(pool, lanes)
                 for future in wait(self.running, return_when=FIRST_COMPLETED).done:
-                    self.finish_proof(future, lanes)
+                    self.hand_over_finished_proof_or_raise(future, lanes)
         finally:
             for lane in lanes:
-                lane.stop()
+                lane.stop_and_refuse_new()
             pool.shutdown()
             for it in self.running.values():
                 with contextlib.suppress(ProofRefusedError), lock_crate(it.crate, waits=False) as is_held:
                     if is_held:
-                        self.check_lane(it.lane)
-                        hand_over_parts(it.lane.out_folder(it.crate), out_folder_of(it.crate), self.folder)
+                        self.raise_if_lane_copy_or_kit_changed(it.lane)
+                        replace_all_parts_linking_or_copying(
+                            it.lane.out_folder_of_crate_in_lane(it.crate), out_folder_of_crate(it.crate), self.folder
+                        )
 
     def fill_free_lanes(self, pool: ThreadPoolExecutor, lanes: list[Lane]) -> None:
         """Gives each lane that is free a crate, with what is kept of it."""
         busy = [it.lane.tree for it in self.running.values()]
         for lane in (it for it in lanes if it.tree not in busy):
-            crate = self.next_crate()
+            crate = self.find_ready_crate_with_longest_chain()
             if crate is None:
                 return
             self.waiting.remove(crate)
             with lock_crate(crate):
-                hand_over_parts(out_folder_of(crate), lane.out_folder(crate), self.folder)
-            self.print_crate_begun(crate, len(lanes))
-            running = RunningProof(crate, lane, times_key_of(crate), time.time())
-            prove_crate = lane.prove_program if is_program(lane.tree, crate) else lane.prove_library
+                replace_all_parts_linking_or_copying(
+                    out_folder_of_crate(crate), lane.out_folder_of_crate_in_lane(crate), self.folder
+                )
+            self.print_crate_begun_and_what_is_left(crate, len(lanes))
+            running = RunningProof(crate, lane, times_key_by_whether_incremental_is_kept(crate), time.time())
+            prove_crate = lane.prove_program_or_raise if is_program(lane.tree, crate) else lane.prove_library_or_raise
             self.running[pool.submit(prove_crate, crate)] = running
 
-    def finish_proof(self, future: Future[None], lanes: list[Lane]) -> None:
+    def hand_over_finished_proof_or_raise(self, future: Future[None], lanes: list[Lane]) -> None:
         """Gives the other lane what it reads of a crate that was proved, and the tree all that is kept of it."""
         future.result()
         it = self.running[future]
-        self.check_lane(it.lane)
-        self.keep_proof_time(it)
-        out = it.lane.out_folder(it.crate)
-        keep_definitions(out, folders_of_crate_and_below(it.lane.tree, it.crate, self.uses))
+        self.raise_if_lane_copy_or_kit_changed(it.lane)
+        self.keep_proof_time_if_proved_anew(it)
+        out = it.lane.out_folder_of_crate_in_lane(it.crate)
+        write_definitions_of_last_proof(out, folders_of_crate_and_below(it.lane.tree, it.crate, self.uses))
         if is_program(it.lane.tree, it.crate):
-            self.keep_program_sums(it.crate, it.lane.tree)
+            self.write_program_and_source_sums_file(it.crate, it.lane.tree)
         else:
             for other in (lane for lane in lanes if lane.tree != it.lane.tree):
-                hand_over_parts(out / "rlib", other.out_folder(it.crate) / "rlib", self.folder)
+                replace_all_parts_linking_or_copying(
+                    out / "rlib", other.out_folder_of_crate_in_lane(it.crate) / "rlib", self.folder
+                )
         with lock_crate(it.crate):
-            hand_over_parts(out, out_folder_of(it.crate), self.folder)
+            replace_all_parts_linking_or_copying(out, out_folder_of_crate(it.crate), self.folder)
         # Only now, so that what was proved isn't lost where a signal comes in the midst.
         del self.running[future]
         self.proved.add(it.crate)
 
-    def check_lane(self, lane: Lane) -> None:
+    def raise_if_lane_copy_or_kit_changed(self, lane: Lane) -> None:
         """Checks that what is proved in a lane is what was copied, by the kit that was there at the beginning."""
-        if changed := lane.copy.changed_path():
+        if changed := lane.copy.find_first_path_changed_since_copied():
             raise ProofRefusedError(f"{lane.tree}/{changed} has changed while it was proved: run this again")
         self.kit.check_unchanged()
 
-    def keep_proof_time(self, it: RunningProof) -> None:
+    def keep_proof_time_if_proved_anew(self, it: RunningProof) -> None:
         """Keeps what a proof took, if it was one: a crate that hasn't changed isn't proved again."""
-        if time_of_proof(it.lane.out_folder(it.crate)) >= it.begun:
+        if moment_of_last_proof_or_zero(it.lane.out_folder_of_crate_in_lane(it.crate)) >= it.begun:
             self.times.keep_seconds(it.key, time.time() - it.begun)
 
-    def keep_program_sums(self, program: str, tree: Path) -> None:
+    def write_program_and_source_sums_file(self, program: str, tree: Path) -> None:
         """Keeps the checksums of a program and of what its proof read beside it."""
         path = proof_sums.program_path(program)
         read = {it: self.sums[it] for it in sources_of_proof(str(tree), program)}
-        proof_sums.replace_file(
+        proof_sums.replace_file_if_possible(
             f"{tree}/{path}.sums", proof_sums.sums_file_text(sums_of_files(str(tree), [path]), read, self.kit.name)
         )
 
@@ -185,7 +202,7 @@ def print_message(text: str) -> None:
     print(f"prove: {text}", file=sys.stderr, flush=True)
 
 
-def out_folder_of(crate: str) -> Path:
+def out_folder_of_crate(crate: str) -> Path:
     """The folder of what is kept of a crate of the tree."""
     return TOP / "crates" / crate / "out"
 
@@ -194,18 +211,20 @@ def is_program(tree: Path, crate: str) -> bool:
     return (tree / "crates" / crate / "src" / "main.rt").exists()
 
 
-def prove_in_lanes(named: list[str], uses: dict[str, list[str]], lanes: int, kit: ProvingKit) -> str | None:
+def prove_in_lanes_and_describe_change(
+    named: list[str], uses: dict[str, list[str]], lanes: int, kit: ProvingKit
+) -> str | None:
     """Proves crates and those below them. If the tree has other files than their proofs read, the answer says so."""
-    crates = tuple(dict.fromkeys(low for it in named for low in [*libraries_below(it, uses), it]))
+    crates = tuple(dict.fromkeys(low for it in named for low in [*crates_below_one_in_build_order(it, uses), it]))
     times = Times.read()
-    out = out_folder_of(named[0])
+    out = out_folder_of_crate(named[0])
     out.mkdir(parents=True, exist_ok=True)
     for left in TOP.glob(f"crates/*/out/{LANE}*"):
         shutil.rmtree(left, ignore_errors=True)
     with tempfile.TemporaryDirectory(prefix=LANE, dir=out) as folder:
         trees = [Path(folder) / str(number) for number in range(lanes)]
-        read, copies = copy_proof_sources(TOP, crates, trees)
-        work = Work(kit, read, Path(folder), uses, list(crates), times, times.expected_seconds(uses))
+        read, copies = copy_to_trees_returning_checksums(TOP, crates, trees)
+        work = Work(kit, read, Path(folder), uses, list(crates), times, times.expected_seconds_by_crate(uses))
         flags = ["--jobs", str(JOBS)] if lanes > 1 else []
         try:
             work.prove_all([Lane(copy, kit.command, flags) for copy in copies])
@@ -213,7 +232,10 @@ def prove_in_lanes(named: list[str], uses: dict[str, list[str]], lanes: int, kit
             raise Interrupted(" and ".join(it.crate for it in work.running.values())) from None
     try:
         differing = (
-            read.items() ^ sums_of_files(str(TOP), files_among_places(places_in_crates(str(TOP), crates))).items()
+            read.items()
+            ^ sums_of_files(
+                str(TOP), sorted_files_among_places_or_refuse(paths_and_kinds_read_in_crates(str(TOP), crates))
+            ).items()
         )
     except Unreadable as why:
         return str(why)
@@ -237,10 +259,10 @@ def lock_tree() -> Iterator[None]:
 
 def folders_of_crate_and_below(tree: Path, crate: str, uses: dict[str, list[str]]) -> list[Path]:
     """The folders of a crate and of those below it."""
-    return [tree / "crates" / it for it in [*libraries_below(crate, uses), crate]]
+    return [tree / "crates" / it for it in [*crates_below_one_in_build_order(crate, uses), crate]]
 
 
-def refusal_lines(crate: str, folders: list[Path], shown: Callable[[str], str], top: Path) -> Iterator[str]:
+def refusal_report_lines(crate: str, folders: list[Path], shown: Callable[[str], str], top: Path) -> Iterator[str]:
     """Why a crate isn't proved, with each contract that is refused, and which definitions have changed since it was.
 
     Paths of errors are as they are shown, those of definitions below a folder.
@@ -251,41 +273,41 @@ def refusal_lines(crate: str, folders: list[Path], shown: Callable[[str], str], 
     found = add_contracts_to_errors(errors_in_log(text, folder, shown), Definitions(folders), top)
     yield f"prove: {crate} isn't proved, or wasn't built:"
     yield from list(found) or text.splitlines()[-5:] or [""]
-    yield from change_report_lines(log.parent, folders)
+    yield from changed_definitions_and_laws_report_lines(log.parent, folders)
     yield f"prove: the whole log: {log}"
 
 
-def report_refusal(crate: str, uses: dict[str, list[str]]) -> None:
+def print_and_write_refusal_for_editors(crate: str, uses: dict[str, list[str]]) -> None:
     """Prints why a crate isn't proved, and leaves that for `watch` and editors, which may be called from elsewhere."""
     folders = folders_of_crate_and_below(TOP, crate, uses)
-    print(*refusal_lines(crate, folders, os.path.relpath, Path()), sep="\n", file=sys.stderr, flush=True)
+    print(*refusal_report_lines(crate, folders, os.path.relpath, Path()), sep="\n", file=sys.stderr, flush=True)
     with contextlib.suppress(OSError):
         REFUSED.parent.mkdir(parents=True, exist_ok=True)
         beside = REFUSED.with_suffix(".new")
-        beside.write_text("".join(f"{line}\n" for line in refusal_lines(crate, folders, os.path.abspath, TOP)))
+        beside.write_text("".join(f"{line}\n" for line in refusal_report_lines(crate, folders, os.path.abspath, TOP)))
         beside.replace(REFUSED)
 
 
-def prove_named(named: list[str], every: list[str], lanes: int) -> None:
+def prove_and_keep_programs_or_raise(named: list[str], every: list[str], lanes: int) -> None:
     """Proves crates that are named, those that aren't proved, by the kit that is there before and after."""
-    kit = proving_kit.kit_with_checked_version()
+    kit = proving_kit.kit_whose_version_matches_its_file()
     with lock_tree():
         REFUSED.unlink(missing_ok=True)
-        uses = dependencies((TOP / TABLE).read_text())
-        left = [it for it in named if not (is_program(TOP, it) and proof_sums.is_proved(str(TOP), it))]
-        changed = prove_in_lanes(left, uses, lanes, kit) if left else None
+        uses = parse_dependencies_between_crates((TOP / TABLE).read_text())
+        left = [it for it in named if not (is_program(TOP, it) and proof_sums.is_proved_keeping_stamps(str(TOP), it))]
+        changed = prove_in_lanes_and_describe_change(left, uses, lanes, kit) if left else None
         # Also where nothing was left to prove, and by what its command says.
         kit.check_unchanged()
-        proving_kit.kit_with_checked_version()
+        proving_kit.kit_whose_version_matches_its_file()
         if changed:
             raise ProofRefusedError(f"{changed}, and what was proved is as all was before: run this again")
-        proved = [it for it in every if proof_sums.is_proved(str(TOP), it)]
+        proved = [it for it in every if proof_sums.is_proved_keeping_stamps(str(TOP), it)]
         # If only libraries are named, the kept programs stay.
         if set(proved).intersection(named):
             keep_programs(proved)
 
 
-def print_proved(crates: list[str]) -> None:
+def print_proved_programs_and_libraries(crates: list[str]) -> None:
     programs = [it for it in crates if is_program(TOP, it)]
     if programs:
         print_message(f"proved and built: {', '.join(programs)}")
@@ -295,7 +317,7 @@ def print_proved(crates: list[str]) -> None:
 
 def main() -> int:
     every = (TOP / "packaging" / "programs.txt").read_text().split()
-    uses = dependencies((TOP / TABLE).read_text())
+    uses = parse_dependencies_between_crates((TOP / TABLE).read_text())
     parser = argparse.ArgumentParser(prog="prove", allow_abbrev=False, description=(__doc__ or "").partition("\n")[0])
     parser.add_argument("crates", metavar="CRATE", nargs="*", help=f"{', '.join(every)}, or a library")
     parser.add_argument("--lanes", type=int, choices=(1, 2), help="how many crates are proved side by side")
@@ -305,10 +327,10 @@ def main() -> int:
         parser.error(f"there is no crate {unknown}; there are {', '.join(uses)}")
     signals.raise_at_first_signal()
     try:
-        prove_named(named, every, options.lanes or (2 if fits_two_lanes() else 1))
-        print_proved(named)
+        prove_and_keep_programs_or_raise(named, every, options.lanes or (2 if fits_two_lanes() else 1))
+        print_proved_programs_and_libraries(named)
     except Unproved as crate:
-        report_refusal(str(crate), uses)
+        print_and_write_refusal_for_editors(str(crate), uses)
         return 2
     except Interrupted as at:
         print_message(f"interrupted at {at}; what was proved is kept: run it again to go on")

@@ -14,7 +14,7 @@ from kit import kit_id_on_path
 TOP = os.path.dirname(os.path.dirname(os.path.realpath(__file__)))
 
 
-def is_unchanged_since_proved(program: str) -> bool:
+def are_stamps_unchanged_since_proved(program: str) -> bool:
     """Whether nothing has changed since a program was found to be proved."""
     try:
         with open(f"{TOP}/crates/{program}/out/{program}.stamps", "rb", buffering=0) as file:
@@ -24,12 +24,12 @@ def is_unchanged_since_proved(program: str) -> bool:
 
 
 def main(arguments: list[str]) -> int:
-    if len(arguments) == 1 and is_unchanged_since_proved(arguments[0]):
+    if len(arguments) == 1 and are_stamps_unchanged_since_proved(arguments[0]):
         os.write(1, os.fsencode(f"{TOP}/crates/{arguments[0]}/out/{arguments[0]}\n"))
         return 0
-    from proof_sums import print_answer  # Imported late, since it takes time.
+    from proof_sums import print_program_path_sums_or_files  # Imported late, since it takes time.
 
-    return print_answer(TOP, arguments)
+    return print_program_path_sums_or_files(TOP, arguments)
 
 
 if __name__ == "__main__":

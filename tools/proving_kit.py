@@ -7,7 +7,7 @@ import subprocess
 from dataclasses import dataclass
 from pathlib import Path
 
-from kit import command_of_kit, kit_id_file, kit_id_of_command
+from kit import find_kit_command_on_path, id_file_in_folder_of_kit, read_kit_id_file_or_empty
 from stamps import stamps_of
 
 
@@ -25,26 +25,26 @@ class ProvingKit:
 
     def check_unchanged(self) -> None:
         """Checks that this kit is the one that is on the PATH, and as it was."""
-        if kit_on_path() != self:
+        if kit_on_path_or_refuse() != self:
             raise ProofRefusedError(f"the kit of {self.command} has changed while it proved: run this again")
 
 
-def kit_on_path() -> ProvingKit:
+def kit_on_path_or_refuse() -> ProvingKit:
     """The kit whose command is on the PATH, by its files alone."""
-    command = command_of_kit()
+    command = find_kit_command_on_path()
     if command is None:
         raise ProofRefusedError("the Rattle kit's command 'rt' has to be on the PATH")
-    place = Path(kit_id_file(command))
-    name = kit_id_of_command(command)
+    place = Path(id_file_in_folder_of_kit(command))
+    name = read_kit_id_file_or_empty(command)
     if not name:
         raise ProofRefusedError(f"{command} is of no kit: {place} doesn't say which")
     programs = sorted(str(it) for it in Path(os.path.realpath(command)).parent.iterdir())
     return ProvingKit(os.path.abspath(command), name, stamps_of("", [str(place), *programs]))
 
 
-def kit_with_checked_version() -> ProvingKit:
+def kit_whose_version_matches_its_file() -> ProvingKit:
     """The kit whose command is on the PATH, if it prints the name that its file has."""
-    it = kit_on_path()
+    it = kit_on_path_or_refuse()
     call = shlex.join([it.command, "--version"])
     try:
         printed = subprocess.run(
@@ -56,6 +56,6 @@ def kit_with_checked_version() -> ProvingKit:
         raise ProofRefusedError(f"{call} ends with status {printed.returncode}")
     if " ".join(printed.stdout.split()) != it.name:
         raise ProofRefusedError(
-            f"{call} prints {printed.stdout.strip()!r}, and {kit_id_file(it.command)} has {it.name!r}"
+            f"{call} prints {printed.stdout.strip()!r}, and {id_file_in_folder_of_kit(it.command)} has {it.name!r}"
         )
     return it

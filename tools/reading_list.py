@@ -25,7 +25,7 @@ LISTS = {
     "headline": (
         "Book::show.current,scripts,grammar,whole,parts",
         "Book::history",
-        "pd_book::law_headline.taken",
+        "pd_book::law_verdicts_are_of_current_runs.taken",
         "Book::new",
         *(f"Book::{call}.gives" for call in ("add", "edit", "remove", "set", "start", "finish", "abandon")),
     ),
@@ -48,7 +48,7 @@ class ListedPlace:  # lines of a file that define or promise something
     text: str
 
 
-def read_names(path: Path, crate: str) -> Iterator[tuple[Name, "ListedPlace | Name"]]:
+def read_defined_and_imported_names(path: Path, crate: str) -> Iterator[tuple[Name, "ListedPlace | Name"]]:
     file, text, owner, start = str(path.relative_to(CRATES)), path.read_text(encoding="utf-8"), "", 1
     yield from imports_of(file, crate, text)
     for part in text.replace("pub(crate) ", "pub ").split("\n\n"):
@@ -72,12 +72,12 @@ def imports_of(file: str, crate: str, text: str) -> Iterator[tuple[Name, Name]]:
         yield from (((file, name), (library if library[:2] == "pd" else crate, name)) for name in TYPE.findall(names))
 
 
-def read_index() -> Index:
+def read_index_of_names_in_all_crates() -> Index:
     paths = sorted((*CRATES.glob("*/specs/*.antt"), *CRATES.glob("*/src/**/*.rt")))
-    return dict(item for path in paths for item in read_names(path, path.relative_to(CRATES).parts[0]))
+    return dict(item for path in paths for item in read_defined_and_imported_names(path, path.relative_to(CRATES).parts[0]))
 
 
-def places_meant(index: Index, file: str, word: str) -> list[ListedPlace]:
+def places_defining_word_through_imports(index: Index, file: str, word: str) -> list[ListedPlace]:
     """What a word of a file stands for, also where that file has it from another one."""
     head, _, rest = word.partition(".")
     found = index.get((file, head))
@@ -88,7 +88,7 @@ def places_meant(index: Index, file: str, word: str) -> list[ListedPlace]:
 
 def find_contract(index: Index, wanted: str) -> ListedPlace:
     name, _, clauses = wanted.partition(".")
-    found = [place for key in index if f"::{'::'.join(key)}".endswith(f"::{name}") for place in places_meant(index, *key)]
+    found = [place for key in index if f"::{'::'.join(key)}".endswith(f"::{name}") for place in places_defining_word_through_imports(index, *key)]
     head, *parts = re.split(r"\n(?= *ensures)", found[0].text if len(found) == 1 else "")
     kept = [part for part in parts if not clauses or part.split()[1] in clauses.split(",")]
     if len(found) != 1 or len(kept) < len(clauses.split(",")):
@@ -96,12 +96,12 @@ def find_contract(index: Index, wanted: str) -> ListedPlace:
     return ListedPlace(found[0].file, found[0].start, "\n".join([head, *kept]))
 
 
-def places_reached(index: Index, functions: list[str]) -> list[ListedPlace]:
+def contracts_and_places_they_rest_on(index: Index, functions: list[str]) -> list[ListedPlace]:
     """The contracts of functions and all that they rest on, what is nearer first."""
     places = [find_contract(index, wanted) for wanted in functions]
     for here in places:
         words = WORD.findall(re.sub(r"(--|//).*|^ +pub \w+ :|^    [A-Z]\w*(?=[,(])", "", here.text, flags=re.M))
-        beyond = dict.fromkeys(place for word in words for place in places_meant(index, here.file, word))
+        beyond = dict.fromkeys(place for word in words for place in places_defining_word_through_imports(index, here.file, word))
         places.extend(place for place in beyond if place not in places)
     return places
 
@@ -111,7 +111,7 @@ def main(words: list[str]) -> None:
         sys.exit(__doc__)
     functions = [function for word in words for function in LISTS.get(word, (word,))]
     lines: dict[str, set[int]] = {}
-    for place in places_reached(read_index(), functions):
+    for place in contracts_and_places_they_rest_on(read_index_of_names_in_all_crates(), functions):
         lines.setdefault(place.file, set()).update(range(place.start, place.start + place.text.count("\n") + 1))
     for crate in reversed(re.findall(r"^(\w+).*:", (CRATES.parent / "crates.txt").read_text(encoding="utf-8"), re.M)):
         files = [f"`{file.split('/', 1)[1]}` {len(lines[file])}" for file in lines if file.startswith(f"{crate}/")]

@@ -37,7 +37,7 @@ class Definition:
         return [it for it in self.body if it not in COMMON and it.partition(".")[0] not in self.parameters]
 
 
-def read_definitions() -> Iterator[Definition]:
+def read_one_clause_definitions() -> Iterator[Definition]:
     """The definitions that are one clause."""
     for path in sorted(TOP.glob("crates/*/specs/*.antt")):
         for name, parameters, body in CLAUSE.findall(UNREAD.sub("", path.read_text(encoding="utf-8"))):
@@ -57,7 +57,7 @@ def place_after_term(words: list[str], at: int) -> int:
     return len(words)
 
 
-def is_body_at(it: Definition, words: list[str], at: int) -> bool:
+def is_body_at_with_any_arguments(it: Definition, words: list[str], at: int) -> bool:
     """Whether the body stands at a place of a proof."""
     for word in it.body:
         head, dot, field = word.partition(".")
@@ -72,7 +72,7 @@ def is_body_at(it: Definition, words: list[str], at: int) -> bool:
     return True
 
 
-def repetitions_in(each: list[Definition], path: Path) -> Iterator[tuple[int, str]]:
+def definitions_repeated_in_proof(each: list[Definition], path: Path) -> Iterator[tuple[int, str]]:
     """The rules that one file repeats, with its lines."""
     text = path.read_text(encoding="utf-8")
     found = [
@@ -88,7 +88,9 @@ def repetitions_in(each: list[Definition], path: Path) -> Iterator[tuple[int, st
     for it in each:
         if len(it.distinctive_words) >= OWN and it.body[0] == it.distinctive_words[0]:
             yield from (
-                (found[at][1], f"says {it.name} again") for at in places[it.body[0]] if is_body_at(it, words, at)
+                (found[at][1], f"says {it.name} again")
+                for at in places[it.body[0]]
+                if is_body_at_with_any_arguments(it, words, at)
             )
         if it.module in text:
             for number in {word for word in it.distinctive_words if word.isdigit() and int(word) > 2}:
@@ -99,11 +101,11 @@ def repetitions_in(each: list[Definition], path: Path) -> Iterator[tuple[int, st
 
 def main(crates: list[str]) -> int:
     """Prints what the proofs of these crates repeat, of any crate's definitions."""
-    each = list(read_definitions())
+    each = list(read_one_clause_definitions())
     for path in sorted(TOP.glob("crates/*/proofs/**/*.antt")):
         name = path.relative_to(TOP)
         if not crates or name.parts[1] in crates:
-            for line, what in sorted(set(repetitions_in(each, path))):
+            for line, what in sorted(set(definitions_repeated_in_proof(each, path))):
                 print(f"{name}:{line}: {what}")
     return 0
 

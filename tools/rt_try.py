@@ -85,8 +85,8 @@ def run_once(program: str, arguments: Sequence[bytes], given: Path, folder: Path
     """The result of a program with these arguments, and a file as its input."""
     if given.stat().st_size >= MOST_INPUT:
         raise NotRunError(NoAnswer("TooMuchInput", "the input has 64 MiB or more"))
-    called = call_rt_try(program, [b"--seconds", b"%d" % seconds, b"--", *arguments], given, folder)
-    return result_from_last_line(called, called.output, called.printed, seconds)
+    called = run_program_crate_by_rt_try(program, [b"--seconds", b"%d" % seconds, b"--", *arguments], given, folder)
+    return result_from_last_line_or_raise(called, called.output, called.printed, seconds)
 
 
 def run_cases(
@@ -113,12 +113,14 @@ def run_cases(
         write_case(case_folder / name.decode(), case)
     options = [b"--seconds", b"%d" % seconds, b"--cases", os.fsencode(case_folder)]
     options += [] if steps is None else [b"--steps", b"%d" % steps]
-    called = call_rt_try(program, options + ([b"--", *arguments] if arguments else []), Path(os.devnull), folder, top)
+    called = run_program_crate_by_rt_try(
+        program, options + ([b"--", *arguments] if arguments else []), Path(os.devnull), folder, top
+    )
     shutil.rmtree(case_folder)
-    outputs = dict(split_by_heading(rb"^== (%b-\d+)\n" % token.encode(), called.output))
+    outputs = dict(split_into_heading_and_text_pairs(rb"^== (%b-\d+)\n" % token.encode(), called.output))
     return [
-        result_from_last_line(called, outputs.get(name, b""), printed, seconds)
-        for name, printed in zip(names, printed_by_case(names, called))
+        result_from_last_line_or_raise(called, outputs.get(name, b""), printed, seconds)
+        for name, printed in zip(names, split_rt_try_log_into_cases(names, called))
     ]
 
 
@@ -130,7 +132,7 @@ def write_case(file: Path, case: TryCase) -> None:
     file.with_name(f"{file.name}.args").write_bytes(b"".join(it + b"\n" for it in case.arguments))
 
 
-def printed_by_case(names: Sequence[bytes], called: TryCall) -> Iterator[bytes]:
+def split_rt_try_log_into_cases(names: Sequence[bytes], called: TryCall) -> Iterator[bytes]:
     """What `rt try` printed for each case, ended by a line as the last one of a single run."""
     begin = 0
     for name in names:
@@ -141,13 +143,13 @@ def printed_by_case(names: Sequence[bytes], called: TryCall) -> Iterator[bytes]:
         begin = end.end()
 
 
-def split_by_heading(heading: bytes, text: bytes) -> Iterator[tuple[bytes, bytes]]:
+def split_into_heading_and_text_pairs(heading: bytes, text: bytes) -> Iterator[tuple[bytes, bytes]]:
     """The name in each heading with what stands below it."""
     _, *parts = re.split(heading, text, flags=re.MULTILINE)
     return zip(parts[::2], parts[1::2])
 
 
-def result_from_last_line(called: TryCall, output: bytes, printed: bytes, seconds: int) -> TryResult:
+def result_from_last_line_or_raise(called: TryCall, output: bytes, printed: bytes, seconds: int) -> TryResult:
     """The result, by the last line that was printed."""
     last = LAST.search(printed)
     if last is None or last[1] == b"none":
@@ -179,13 +181,15 @@ def check_kit_on_path() -> None:
         raise NotRunError(NoAnswer("NoKit", "the Rattle kit's command 'rt' has to be on the PATH"))
 
 
-def with_whole_paths(program: str, printed: bytes, top: Path = TOP) -> bytes:
+def printed_lines_with_whole_paths(program: str, printed: bytes, top: Path = TOP) -> bytes:
     """Printed lines, with whole paths of the files of the program's own crate."""
     folder = os.fsencode(top / "crates" / program)
     return re.sub(rb"^(?=src/|specs/|proofs/)", lambda _: folder + b"/", printed, flags=re.MULTILINE)
 
 
-def call_rt_try(program: str, arguments: Sequence[bytes], given: Path, folder: Path, top: Path = TOP) -> TryCall:
+def run_program_crate_by_rt_try(
+    program: str, arguments: Sequence[bytes], given: Path, folder: Path, top: Path = TOP
+) -> TryCall:
     """Calls `rt try` on a program. Whatever ends this, ends what was started."""
     check_kit_on_path()
     output, log = folder / "output", folder / "log"
@@ -202,11 +206,11 @@ def call_rt_try(program: str, arguments: Sequence[bytes], given: Path, folder: P
         try:
             status = process.wait()
         finally:
-            end_session(process)
+            terminate_then_kill_process_session(process)
     return TryCall(status, output.read_bytes(), log.read_bytes())
 
 
-def end_session(process: subprocess.Popen[bytes]) -> None:
+def terminate_then_kill_process_session(process: subprocess.Popen[bytes]) -> None:
     """Ends a session, if it hasn't ended, which ends its own."""
     for number in (signal.SIGTERM, signal.SIGKILL):
         if process.poll() is None:

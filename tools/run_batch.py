@@ -40,33 +40,34 @@ def make_batch_tree(tree: Path, folder: Path) -> None:
     modules = sorted(it.stem for it in sources.glob("*.rt") if it.stem != "main")
     # On one line, so that each line keeps its number.
     declared = " ".join(f"mod {it};" for it in modules)
-    (sources / "main.rt").write_text(batch_main_file(tree).read_text().replace(MODULE, declared))
-    (folder / "crates.txt").write_text(with_other_libraries((tree / "crates.txt").read_text()))
+    (sources / "main.rt").write_text(own_or_default_batch_main_path(tree).read_text().replace(MODULE, declared))
+    (folder / "crates.txt").write_text(crates_txt_with_libraries_of_other_program((tree / "crates.txt").read_text()))
     if (tree / "HANDLES").exists():
         shutil.copy(tree / "HANDLES", folder)
 
 
-def batch_main_file(tree: Path) -> Path:
+def own_or_default_batch_main_path(tree: Path) -> Path:
     """The main file that fits a tree's crates: its own, or where it has none this tree's."""
     own = tree / MAIN.relative_to(rt_try.TOP)
     return own if own.is_file() else MAIN
 
 
-def with_other_libraries(table: str) -> str:
+def crates_txt_with_libraries_of_other_program(table: str) -> str:
     """A crates.txt in which the program stands on the libraries of the other one, too.
 
-    >>> with_other_libraries("low:\\npdregress may_wait=1: low a\\npdrecord: low b\\n")
+    >>> crates_txt_with_libraries_of_other_program("low:\\npdregress may_wait=1: low a\\npdrecord: low b\\n")
     'low:\\npdregress may_wait=1: low a\\npdrecord: low b  low a\\n'
     """
     found = re.search(rf"^{OTHER}\b[^:]*:(.*)$", table, re.MULTILINE)
     return re.sub(rf"^{PROGRAM}\b.*$", rf"\g<0> {found[1] if found else ''}", table, flags=re.MULTILINE)
 
 
-def with_tree_places(printed: bytes, folder: Path, tree: Path) -> bytes:
+def rewrite_temporary_paths_to_source_tree(printed: bytes, folder: Path, tree: Path) -> bytes:
     """What `rt try` printed, with the places in the tree."""
-    printed = rt_try.with_whole_paths(PROGRAM, printed, folder)
+    printed = rt_try.printed_lines_with_whole_paths(PROGRAM, printed, folder)
     printed = printed.replace(
-        os.fsencode(folder / "crates" / PROGRAM / "src" / "main.rt"), os.fsencode(batch_main_file(tree))
+        os.fsencode(folder / "crates" / PROGRAM / "src" / "main.rt"),
+        os.fsencode(own_or_default_batch_main_path(tree)),
     )
     return printed.replace(os.fsencode(folder / "crates"), os.fsencode(tree / "crates"))
 
@@ -84,7 +85,9 @@ def run_batch(options: argparse.Namespace, tree: Path) -> None:
         except rt_try.NotRunError as error:
             reason = error.reason
             raise rt_try.NotRunError(
-                rt_try.NoAnswer(reason.name, reason.why, with_tree_places(reason.printed, folder, tree))
+                rt_try.NoAnswer(
+                    reason.name, reason.why, rewrite_temporary_paths_to_source_tree(reason.printed, folder, tree)
+                )
             ) from None
     for file, result in zip(files, answers):
         write_result(options.answers, file.name, result)

@@ -22,7 +22,7 @@ import signals
 FAULT = 2
 
 
-def read_cases(folder: Path) -> dict[str, rt_try.TryCase]:
+def read_cases_by_name_in_folder(folder: Path) -> dict[str, rt_try.TryCase]:
     """The cases of a folder by their names."""
     files = sorted(it for it in folder.iterdir() if it.suffix != ".args")
     return {it.name: rt_try.TryCase(read_arguments(it.with_name(f"{it.name}.args")), it.read_bytes()) for it in files}
@@ -44,8 +44,8 @@ def write_result(folder: Path, name: str, result: rt_try.TryResult) -> None:
         (folder / f"{name}.status").write_text(f"{result.name}: {result.why}")
 
 
-def run_all_cases(options: argparse.Namespace) -> None:
-    cases = read_cases(options.cases)
+def run_cases_by_one_rt_try(options: argparse.Namespace) -> None:
+    cases = read_cases_by_name_in_folder(options.cases)
     with tempfile.TemporaryDirectory(prefix=f"{options.program}-") as folder:
         arguments = [os.fsencode(it) for it in options.arguments]
         results = rt_try.run_cases(
@@ -66,11 +66,13 @@ def main() -> int:
     options = parser.parse_args()
     signals.raise_at_first_signal()
     try:
-        run_all_cases(options)
+        run_cases_by_one_rt_try(options)
     except rt_try.NotRunError as error:
         print(f"{options.program}: unproved: {error}", file=sys.stderr)
         sys.stderr.flush()
-        sys.stderr.buffer.write(rt_try.with_whole_paths(options.program, error.reason.printed, options.tree.absolute()))
+        sys.stderr.buffer.write(
+            rt_try.printed_lines_with_whole_paths(options.program, error.reason.printed, options.tree.absolute())
+        )
         return FAULT
     except signals.StoppedBySignal as signal:
         signals.end_process_by(signal.number)

@@ -21,7 +21,7 @@ from typing import NoReturn
 import building
 import rt_try
 import signals
-from build_cache import OPTIMISED, PLAIN, cached_program_folder
+from build_cache import OPTIMISED, PLAIN, find_cached_program_folder_of_first_way
 
 FAULT = 2
 BLOCK = 1 << 20
@@ -42,10 +42,10 @@ class StreamFault(Exception):
 
 
 def print_message(program: str, text: str) -> None:
-    write_octets(2, f"{program}: {text}\n".encode(errors="replace"))
+    write_all_octets_or_false(2, f"{program}: {text}\n".encode(errors="replace"))
 
 
-def write_octets(descriptor: int, octets: bytes) -> bool:
+def write_all_octets_or_false(descriptor: int, octets: bytes) -> bool:
     """Writes to a descriptor; whether all was taken."""
     try:
         while octets:
@@ -72,7 +72,7 @@ def check_arguments_are_text(arguments: list[str]) -> None:
         raise rt_try.NotRunError(rt_try.NoAnswer("NotText", "an argument isn't UTF-8")) from None
 
 
-def copy_input_to(file: Path) -> None:
+def copy_standard_input_cutting_at_limit(file: Path) -> None:
     """Reads standard input into a file, up to more than `rt try` takes."""
     left = rt_try.MOST_INPUT
     with file.open("wb") as kept:
@@ -102,17 +102,17 @@ class BuildProgress:
         if os.isatty(2):
             self._is_shown = True
             seconds = int(time.monotonic() - self._begin)
-            write_octets(2, f"\r{CLEAR}{self._program}: unproved: {PHASES[phase]}, {seconds} s".encode())
+            write_all_octets_or_false(2, f"\r{CLEAR}{self._program}: unproved: {PHASES[phase]}, {seconds} s".encode())
 
     def clear_line(self) -> None:
         if self._is_shown:
-            write_octets(2, f"\r{CLEAR}".encode())
+            write_all_octets_or_false(2, f"\r{CLEAR}".encode())
 
 
-def find_or_build(program: str) -> Path:
+def announce_and_find_or_build_program_folder(program: str) -> Path:
     """The folder of the programs, which are built if none are kept; a line says first that the program isn't proved."""
     # If both ways are kept, the plain one explains a fault better.
-    folder = cached_program_folder(rt_try.TOP, (PLAIN, OPTIMISED))
+    folder = find_cached_program_folder_of_first_way(rt_try.TOP, (PLAIN, OPTIMISED))
     first = "running without proofs" if folder else "building first, then running without proofs"
     print_message(program, f"unproved: {first}; {prove_command(program)} proves it")
     if folder is not None:
@@ -124,7 +124,7 @@ def find_or_build(program: str) -> Path:
         progress.clear_line()
 
 
-def exec_program(program: Path, arguments: list[str]) -> NoReturn:
+def exec_program_or_raise(program: Path, arguments: list[str]) -> NoReturn:
     """Puts a program in the place of this process, with its streams, and the signals as a shell hands them on."""
     for number in (signal.SIGPIPE, signal.SIGXFSZ):
         signal.signal(number, signal.SIG_DFL)
@@ -143,12 +143,12 @@ def run_by_rt_try(program: str, arguments: list[str]) -> int:
         else:
             if os.isatty(0):
                 print_message(program, "unproved: reading the input first, up to its end (Ctrl-D)")
-            copy_input_to(given)
+            copy_standard_input_cutting_at_limit(given)
         answer = rt_try.run_once(program, [os.fsencode(it) for it in arguments], given, folder)
     if isinstance(answer, rt_try.NoAnswer):
         raise rt_try.NotRunError(answer)
-    write_octets(2, answer.errors)
-    if not write_octets(1, answer.output):
+    write_all_octets_or_false(2, answer.errors)
+    if not write_all_octets_or_false(1, answer.output):
         raise StreamFault("18 Write")
     return answer.status
 
@@ -171,16 +171,16 @@ def main() -> int:
         rt_try.check_kit_on_path()
         check_arguments_are_text(arguments)
         with contextlib.suppress(building.NoBuild, FileNotFoundError):
-            exec_program(find_or_build(program) / program, arguments)
+            exec_program_or_raise(announce_and_find_or_build_program_folder(program) / program, arguments)
         return run_by_rt_try(program, arguments)
     except building.NotCompiled as refused:
         print_message(program, f"unproved: NotCompiled: {refused}")
-        write_octets(2, refused.printed)
+        write_all_octets_or_false(2, refused.printed)
     except StreamFault as fault:
         print_message(program, str(fault))
     except rt_try.NotRunError as error:
         print_message(program, f"unproved: {error}")
-        write_octets(2, rt_try.with_whole_paths(program, error.reason.printed))
+        write_all_octets_or_false(2, rt_try.printed_lines_with_whole_paths(program, error.reason.printed))
     except OSError as error:
         print_message(program, f"unproved: NoRoom: {error}")
     except signals.StoppedBySignal as signal:

@@ -38,19 +38,19 @@ class Setting:
     default: str
 
     @property
-    def shown_range(self) -> str:
+    def shown_range_or_words_without_unit(self) -> str:
         """What it takes, as pages say it."""
         if self.ends:
             return f"{self.ends[0]:,} to {self.ends[1]:,}"
         return ", ".join(f"`{word}`" for word in self.words)
 
     @property
-    def shown_default(self) -> str:
+    def shown_default_without_unit(self) -> str:
         """The default, as pages say it."""
         return f"{int(self.default):,}" if self.ends else f"`{self.default}`"
 
 
-def parse_settings(rows: str, words: str) -> Iterator[Setting]:
+def parse_settings_from_rows_and_words(rows: str, words: str) -> Iterator[Setting]:
     """The settings, by the texts of the rows and of the words."""
     found = WORD.findall(words)
     named = {rule: word for _, rule, word in found}
@@ -68,12 +68,13 @@ def page_table(rows: list[Setting]) -> str:
 
     def row(it: Setting) -> str:
         unit = f" {it.unit}" if it.unit else ""
-        return f"| `{it.key}` |{unit} | {it.shown_range} | {it.shown_default} |{kept.get(it.key, ' | ')}|\n"
+        values = f"{it.shown_range_or_words_without_unit} | {it.shown_default_without_unit}"
+        return f"| `{it.key}` |{unit} | {values} |{kept.get(it.key, ' | ')}|\n"
 
     return HEAD + "".join(map(row, rows))
 
 
-def client_defaults(rows: list[Setting]) -> str:
+def render_client_defaults_as_python(rows: list[Setting]) -> str:
     """The same as values of Python."""
 
     def value(word: str) -> str:
@@ -91,19 +92,28 @@ def client_defaults(rows: list[Setting]) -> str:
 
 def man_page_items(rows: list[Setting]) -> str:
     """The same as items of a man page."""
-    takes = ((it, f"{it.shown_range} {it.unit}" if it.ends else it.shown_range.replace("`", "")) for it in rows)
+    takes = (
+        (
+            it,
+            f"{it.shown_range_or_words_without_unit} {it.unit}"
+            if it.ends
+            else it.shown_range_or_words_without_unit.replace("`", ""),
+        )
+        for it in rows
+    )
     return "".join(
-        f".TP\n.B {it.key}\n{what}; {it.shown_default.strip('`')} where nobody sets it\n" for it, what in takes
+        f".TP\n.B {it.key}\n{what}; {it.shown_default_without_unit.strip('`')} where nobody sets it\n"
+        for it, what in takes
     )
 
 
-MADE = {"page": page_table, "client": client_defaults, "man": man_page_items}
+MADE = {"page": page_table, "client": render_client_defaults_as_python, "man": man_page_items}
 
 
 def main(arguments: list[str]) -> int:
     """Prints the chosen table."""
     text = (SPECS / "Rows.antt").read_text(encoding="utf-8")
-    rows = list(parse_settings(text, (SPECS / "Words.antt").read_text(encoding="utf-8")))
+    rows = list(parse_settings_from_rows_and_words(text, (SPECS / "Words.antt").read_text(encoding="utf-8")))
     if len(rows) != len(re.findall(r"^row_of \w+ =", text, re.MULTILINE)):
         print("settings_table: a row isn't read; each is one line, as the others are", file=sys.stderr)
         return 1

@@ -20,17 +20,17 @@ def raise_at_first_signal() -> None:
     """Lets the first signal raise `StoppedBySignal`. One that is ignored, as `nohup` ignores one, stays so."""
     for number in SIGNALS:
         if signal.getsignal(number) != signal.SIG_IGN:
-            signal.signal(number, raise_stopped)
+            signal.signal(number, raise_stopped_and_ignore_later_signals)
 
 
-def raise_stopped(number: int, _frame: object) -> NoReturn:
+def raise_stopped_and_ignore_later_signals(number: int, _frame: object) -> NoReturn:
     for other in SIGNALS:
-        if signal.getsignal(other) == raise_stopped:
-            signal.signal(other, ignore_signal)
+        if signal.getsignal(other) == raise_stopped_and_ignore_later_signals:
+            signal.signal(other, do_nothing_at_signal)
     raise StoppedBySignal(number)
 
 
-def ignore_signal(_number: int, _frame: object) -> None:
+def do_nothing_at_signal(_number: int, _frame: object) -> None:
     """Does nothing at a signal. (Where signals are ignored, Python may print that it found one of them.)"""
 
 

@@ -9,7 +9,7 @@ import os
 from collections.abc import Iterable, Iterator
 from hashlib import sha256
 
-from crate_graph import dependencies, libraries_below
+from crate_graph import parse_dependencies_between_crates, crates_below_one_in_build_order
 
 TABLE = "crates.txt"
 HANDLES = "HANDLES"
@@ -34,20 +34,20 @@ def crate_and_libraries(top: str, crate: str) -> list[str]:
     """The crates that one stands on and it itself, lowest first, by the crates.txt of a tree."""
     try:
         with open(f"{top}/{TABLE}", encoding="utf-8", errors="replace") as table:
-            uses = dependencies(table.read())
+            uses = parse_dependencies_between_crates(table.read())
     except OSError as error:
         raise Unreadable(f"{TABLE}: {error.strerror}") from None
     if crate not in uses:
         raise Unreadable(f"{TABLE} names no crate {crate}")
-    return [*libraries_below(crate, uses), crate]
+    return [*crates_below_one_in_build_order(crate, uses), crate]
 
 
 def sources_of_proof(top: str, crate: str) -> list[str]:
     """The files that the proof of a crate reads, in the order of their paths. Links are refused, as by the kit."""
-    return files_among_places(places_of_proof(top, crate))
+    return sorted_files_among_places_or_refuse(paths_and_kinds_read_by_proof(top, crate))
 
 
-def files_among_places(places: Iterable[tuple[str, str]]) -> list[str]:
+def sorted_files_among_places_or_refuse(places: Iterable[tuple[str, str]]) -> list[str]:
     """The files that are read of some places, if no place forbids it, in the order of their paths."""
     found = []
     for path, kind in places:
@@ -58,12 +58,12 @@ def files_among_places(places: Iterable[tuple[str, str]]) -> list[str]:
     return sorted(found, key=os.fsencode)
 
 
-def places_of_proof(top: str, crate: str) -> Iterator[tuple[str, str]]:
+def paths_and_kinds_read_by_proof(top: str, crate: str) -> Iterator[tuple[str, str]]:
     """All that the proof of a crate reads, the folders of that, and what forbids it: each with what it is."""
-    return places_in_crates(top, crate_and_libraries(top, crate))
+    return paths_and_kinds_read_in_crates(top, crate_and_libraries(top, crate))
 
 
-def places_in_crates(top: str, crates: Iterable[str]) -> Iterator[tuple[str, str]]:
+def paths_and_kinds_read_in_crates(top: str, crates: Iterable[str]) -> Iterator[tuple[str, str]]:
     """The same of these crates alone."""
     yield from ((it, FILE) for it in (TABLE, HANDLES) if os.path.lexists(f"{top}/{it}"))
     for folder in (f"crates/{it}" for it in crates):
@@ -74,10 +74,10 @@ def places_in_crates(top: str, crates: Iterable[str]) -> Iterator[tuple[str, str
         else:
             yield folder, FOLDER
             for part in PARTS:
-                yield from places_under_path(f"{folder}/{part}", f"{top}/{folder}/{part}")
+                yield from source_paths_and_kinds_under_path(f"{folder}/{part}", f"{top}/{folder}/{part}")
 
 
-def places_under_path(path: str, place: str) -> Iterator[tuple[str, str]]:
+def source_paths_and_kinds_under_path(path: str, place: str) -> Iterator[tuple[str, str]]:
     """What is read of a path, which is at this place, and of what is below it."""
     if os.path.islink(place):
         # A link of an editor, which leads to nothing, isn't read.
@@ -90,12 +90,12 @@ def places_under_path(path: str, place: str) -> Iterator[tuple[str, str]]:
         except OSError as error:
             raise Unreadable(f"{path}: {error.strerror}") from None
         for name in names:
-            yield from places_under_path(f"{path}/{name}", f"{place}/{name}")
+            yield from source_paths_and_kinds_under_path(f"{path}/{name}", f"{place}/{name}")
     elif path.endswith(KINDS) and os.path.exists(place):
         yield path, FILE if os.path.isfile(place) else "is no plain file"
 
 
-def sums_of_proof(top: str, crate: str) -> dict[str, str]:
+def proof_source_sums_by_path(top: str, crate: str) -> dict[str, str]:
     """The SHA-256 of each file that the proof of a crate reads, in hexadecimal digits, by its path."""
     return sums_of_files(top, sources_of_proof(top, crate))
 
@@ -112,10 +112,10 @@ def sums_of_files(top: str, paths: Iterable[str]) -> dict[str, str]:
     return found
 
 
-def checksum_lines(found: dict[str, str]) -> bytes:
+def checksum_lines_in_given_order(found: dict[str, str]) -> bytes:
     """Checksums as octets: a line `SUM  PATH` for each, where a newline of a path is two octets, and a backslash too.
 
-    >>> checksum_lines({"a": "12", "b\\nc": "34"})
+    >>> checksum_lines_in_given_order({"a": "12", "b\\nc": "34"})
     b'12  a\\n34  b\\\\nc\\n'
     """
     return os.fsencode("".join(f"{it}  {path.translate(ESCAPES)}\n" for path, it in found.items()))

@@ -15,26 +15,26 @@ ABSENT = "-"
 END = "end"
 
 
-def stamp_of(path: str) -> str:
+def stamp_of_link_target_or_absent(path: str) -> str:
     """The stamp of a file or a folder, where its links lead, or that there is none."""
     try:
         it = os.stat(path)
     except OSError:
         return ABSENT
-    return f"{change_moment(it)}:{it.st_ino}:{it.st_size}:{it.st_mtime_ns}:{it.st_mode}"
+    return f"{device_and_change_time_text(it)}:{it.st_ino}:{it.st_size}:{it.st_mtime_ns}:{it.st_mode}"
 
 
-def change_moment(it: os.stat_result) -> str:
+def device_and_change_time_text(it: os.stat_result) -> str:
     """When a file changed last, by which clock."""
     return f"{it.st_dev}:{it.st_ctime_ns}"
 
 
 def stamps_of(top: str, paths: list[str]) -> dict[str, str]:
     """The stamp of each of these paths below a folder."""
-    return {it: stamp_of(f"{top}/{it}") for it in paths}
+    return {it: stamp_of_link_target_or_absent(f"{top}/{it}") for it in paths}
 
 
-def make_probe(folder: str) -> os.stat_result | None:
+def probe_file_system_clock_by_new_file(folder: str) -> os.stat_result | None:
     """The data of a file that is made now in a folder, and removed again, if one can be made there.
 
     It is None, too, where the file system has no clock of its own, but gives what a program set as the moment of a
@@ -56,16 +56,16 @@ def make_probe(folder: str) -> os.stat_result | None:
     return None if probe.st_ctime_ns == probe.st_mtime_ns else probe
 
 
-def are_settled(stamps: dict[str, str], probe: os.stat_result) -> bool:
+def would_later_changes_alter_each_stamp(stamps: dict[str, str], probe: os.stat_result) -> bool:
     """Whether a change from now on gives each of these paths another stamp.
 
     It does where the file that the probe is of was made in another tick of the same clock, after the stamps were taken.
     """
     moments = {tuple(it.split(":", 2)[:2]) for it in stamps.values() if it != ABSENT}
-    return all(it[0] == str(probe.st_dev) and ":".join(it) != change_moment(probe) for it in moments)
+    return all(it[0] == str(probe.st_dev) and ":".join(it) != device_and_change_time_text(probe) for it in moments)
 
 
-def stamps_file_text(program: str, kit: str, found: dict[str, str]) -> bytes:
+def nul_separated_stamps_file_octets(program: str, kit: str, found: dict[str, str]) -> bytes:
     """The stamps of all on which it depends that a program is proved, as octets that can be kept.
 
     They are parts of which each ends with a NUL, since no path has one: the program, what names its kit, the stamps.
@@ -79,4 +79,4 @@ def are_stamps_unchanged(top: str, program: str, kit: str | None, text: bytes) -
     if len(parts) < 4 or parts[0] != program or kit not in (None, parts[1]) or parts[-1] != END:
         return False
     stamps = (it.partition(" ") for it in parts[2:-1])
-    return all(stamp_of(f"{top}/{path}") == stamp for stamp, _, path in stamps)
+    return all(stamp_of_link_target_or_absent(f"{top}/{path}") == stamp for stamp, _, path in stamps)

@@ -30,7 +30,7 @@ class StampedValue(Generic[T]):
     is_fresh: bool = False  # whoever wrote the file may go on
 
 
-def stamp_of(path: str | Path) -> Stamp:
+def stamp_or_errno_of_file(path: str | Path) -> Stamp:
     """Inode, size and times of a file, or why it has none."""
     try:
         it = os.stat(path)
@@ -41,19 +41,19 @@ def stamp_of(path: str | Path) -> Stamp:
     return (it.st_dev, it.st_ino, it.st_size, it.st_mtime_ns, it.st_ctime_ns)
 
 
-def read_stamped(path: str | Path, read: Callable[[], T]) -> StampedValue[T]:
+def read_value_and_file_stamp(path: str | Path, read: Callable[[], T]) -> StampedValue[T]:
     """What is read of a file, with its stamp."""
     begin = time.time_ns()
-    stamp = stamp_of(path)
+    stamp = stamp_or_errno_of_file(path)
     age = time.time_ns() - stamp[-2] if len(stamp) > 1 else _FRESH
     value = read()
     is_young = len(stamp) > 1 and max(stamp[-2:]) > begin - _YOUNG
-    return StampedValue(value, stamp, stamp != stamp_of(path), is_young, 0 <= age < _FRESH)
+    return StampedValue(value, stamp, stamp != stamp_or_errno_of_file(path), is_young, 0 <= age < _FRESH)
 
 
 def is_unchanged_since_read(it: StampedValue[T], path: str | Path) -> bool:
     """Whether the file is surely as it was when it was read."""
-    return not it.is_torn and not it.is_young and it.stamp == stamp_of(path)
+    return not it.is_torn and not it.is_young and it.stamp == stamp_or_errno_of_file(path)
 
 
 def shows_any_later_write(stamp: Stamp, moment: int) -> bool:
@@ -69,4 +69,4 @@ def shows_any_later_write(stamp: Stamp, moment: int) -> bool:
 
 def are_stamps_current(stamps: Mapping[str, Stamp]) -> bool:
     """Whether all files have these stamps, by their paths."""
-    return all(stamp_of(path) == stamp for path, stamp in stamps.items())
+    return all(stamp_or_errno_of_file(path) == stamp for path, stamp in stamps.items())

@@ -31,7 +31,7 @@ def is_special_file(path: Path) -> bool:
     return path.exists() and not path.is_file()
 
 
-def check_writable(path: Path) -> None:
+def require_writable_file_place(path: Path) -> None:
     """Raises a fault where it is plain that no file can be written: at a folder, or in one that isn't there or shut."""
     try:
         above = Path(os.path.realpath(path)).parent

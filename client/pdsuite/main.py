@@ -9,25 +9,25 @@ from typing import TYPE_CHECKING, Any
 
 import click
 
-from pdsuite.commands.list import list_scripts
+from pdsuite.commands.list import list_script_paths_and_settings
 from pdsuite.commands.options import MOST_RUNS, MOST_SECONDS, PathParam, ReasonParam
 from pdsuite.commands.options import (
     html_option,
     no_color_option,
-    optional_script_options,
-    script_options,
-    selection_options,
+    optional_paths_and_script_options,
+    required_paths_and_script_options,
+    last_failed_and_shard_options,
 )
-from pdsuite.commands.options import plot_options, search_options, strict_option, workers_option
-from pdsuite.commands.renamed import with_new_option_name
+from pdsuite.commands.options import plot_selection_options, save_and_seed_options, strict_option, workers_option
+from pdsuite.commands.renamed import error_with_new_option_name
 from pdsuite.commands.report_files import FileParam, FormatOption, ReportCommand
 from pdsuite.commands.run import RunOptions, run_scripts
-from pdsuite.commands.version import version_lines
+from pdsuite.commands.version import commit_and_program_checksum_lines
 from pdsuite.faults import Fault, PlacedFault, error_reason
 from pdsuite.output.octets import printable_octets, printable_text
-from pdsuite.output.screen import OutputError, Screen, is_color_allowed, print_error
+from pdsuite.output.screen import OutputError, Screen, is_no_color_unset, print_line_on_stderr
 from pdsuite.output.styled_text import unstyled_text
-from pdsuite.packages import require_module
+from pdsuite.packages import raise_if_module_missing
 from pdsuite.scripts.shards import Shard
 from pdsuite.signals import StoppedError
 
@@ -41,7 +41,7 @@ FAULT = 2
 def _print_version_and_exit(context: click.Context, option: click.Parameter, on: bool) -> None:
     if on and not context.resilient_parsing:
         with Screen(False, progress=False) as screen:
-            for line in version_lines():
+            for line in commit_and_program_checksum_lines():
                 screen.show(unstyled_text(f"{line}\n"))
         context.exit()
 
@@ -60,13 +60,13 @@ def pdsuite() -> None:
 
 
 @pdsuite.command(name="run", cls=ReportCommand)
-@script_options
-@selection_options
+@required_paths_and_script_options
+@last_failed_and_shard_options
 @click.option("--new-only", is_flag=True, help="Show only rows that the last run of these paths didn't have.")
 @strict_option
 @workers_option
 @html_option
-@plot_options
+@plot_selection_options
 @click.option("--scheduler", metavar="ADDRESS", help="Run scripts on the cluster of this Dask scheduler.")
 @click.option("--proved", is_flag=True, help="Run nothing that isn't proved.")
 @click.option("--fail-fast", is_flag=True, help="Stop at the first piece that doesn't pass.")
@@ -93,16 +93,16 @@ def run_command(no_color: bool, **words: Any) -> int:
     if options.new_only and options.form in ("tap", "json"):
         raise click.UsageError("--new-only leaves rows out, and --tap and --json have all")
     _refuse_plots_without_html(options.html, options.plot, options.plots)
-    with Screen(is_color_allowed() and not no_color, progress=options.form is None) as screen:
+    with Screen(is_no_color_unset() and not no_color, progress=options.form is None) as screen:
         return run_scripts(options, screen)
 
 
 @pdsuite.command(name="watch")
-@script_options
+@required_paths_and_script_options
 @strict_option
 @workers_option
 @html_option
-@plot_options
+@plot_selection_options
 @click.option("-v", "--verbose", is_flag=True, help="At first a line for each script.")
 @click.option("--base", metavar="SENDER", help="Tell scripts that turn against this sender, as compare does.")
 def watch_command(no_color: bool, **words: Any) -> int:
@@ -113,7 +113,7 @@ def watch_command(no_color: bool, **words: Any) -> int:
     options = WatchOptions(**words)
     _refuse_plots_without_html(options.html, options.plot, options.plots)
     gc.enable()  # this may go on for days
-    with Screen(is_color_allowed() and not no_color, progress=False) as screen:
+    with Screen(is_no_color_unset() and not no_color, progress=False) as screen:
         return watch_scripts(options, screen)
 
 
@@ -124,8 +124,8 @@ def _refuse_plots_without_html(html: Path | None, plot: str | None, plots: int |
 
 
 @pdsuite.command(name="list")
-@script_options
-@selection_options
+@required_paths_and_script_options
+@last_failed_and_shard_options
 def list_command(
     paths: tuple[Path, ...],
     only: tuple[str, ...],
@@ -135,12 +135,12 @@ def list_command(
     last_failed: bool,
 ) -> int:
     """Lists the scripts with their settings, and runs nothing."""
-    with Screen(is_color_allowed() and not no_color, progress=False) as screen:
-        return list_scripts(paths, only, shard, last_failed, settings, screen)
+    with Screen(is_no_color_unset() and not no_color, progress=False) as screen:
+        return list_script_paths_and_settings(paths, only, shard, last_failed, settings, screen)
 
 
 @pdsuite.command(name="expect")
-@script_options
+@required_paths_and_script_options
 @workers_option
 @click.option("--reason", metavar="TEXT", type=ReasonParam(), help="Why those that don't pass are known.")
 @click.option("--prune", is_flag=True, help="Take away all tables of scripts that aren't there.")
@@ -150,15 +150,15 @@ def expect_command(no_color: bool, **words: Any) -> int:
     The rows that they have now are expected from then on, with --reason. What is expected of scripts that pass is taken
     away, and so is the table of a script that isn't there where it says nothing else. All else in the files stays.
     """
-    require_module("tomlkit")
-    from pdsuite.commands.expect import ExpectOptions, write_expectations
+    raise_if_module_missing("tomlkit")
+    from pdsuite.commands.expect import ExpectOptions, run_scripts_and_update_expectations
 
-    with Screen(is_color_allowed() and not no_color, progress=True) as screen:
-        return write_expectations(ExpectOptions(**words), screen)
+    with Screen(is_no_color_unset() and not no_color, progress=True) as screen:
+        return run_scripts_and_update_expectations(ExpectOptions(**words), screen)
 
 
 @pdsuite.command(name="record")
-@script_options
+@required_paths_and_script_options
 @workers_option
 @click.option("--write", "writes", is_flag=True, help="Write the files, and show no diff.")
 @click.option("--whole", is_flag=True, help="Record scripts whole, and not by the least change.")
@@ -172,7 +172,7 @@ def record_command(no_color: bool, **words: Any) -> int:
     # Only who records pays for what compares texts.
     from pdsuite.commands.record import RecordOptions, record_scripts
 
-    with Screen(is_color_allowed() and not no_color, progress=True) as screen:
+    with Screen(is_no_color_unset() and not no_color, progress=True) as screen:
         return record_scripts(RecordOptions(**words), screen)
 
 
@@ -190,12 +190,12 @@ def diff_command(old: Path, new: tuple[Path, ...], no_color: bool) -> int:
     # Only who compares pays for what reads reports.
     from pdsuite.commands.diff import diff_reports
 
-    with Screen(is_color_allowed() and not no_color, progress=False) as screen:
+    with Screen(is_no_color_unset() and not no_color, progress=False) as screen:
         return diff_reports(old, new, screen)
 
 
 @pdsuite.command(name="compare")
-@optional_script_options
+@optional_paths_and_script_options
 @click.option("--base", metavar="SENDER", help="The sender before: a folder of programs, a tree or a commit.")
 @click.option("--with", "other", metavar="SENDER", help="The sender after, if not the tree as it stands.")
 @click.option("--base-settings", default="", metavar="TEXT", help="Settings of the sender before, before all others.")
@@ -217,7 +217,7 @@ def diff_command(old: Path, new: tuple[Path, ...], no_color: bool) -> int:
     type=click.IntRange(1, MOST_SECONDS),
     help="Search for a script that turns; cutting it down may take as long again.",
 )
-@search_options
+@save_and_seed_options
 def compare_command(no_color: bool, search: int | None, seed: int | None, save: Path | None, **words: Any) -> int:
     """Shows what a change of the sender does to scripts: which turn, and which are played otherwise.
 
@@ -230,13 +230,13 @@ def compare_command(no_color: bool, search: int | None, seed: int | None, save: 
     # Only who compares senders pays for what runs two.
     from pdsuite.commands.compare import CompareOptions, compare_senders
 
-    options = CompareOptions(**words, search=_make_search_options(search, seed, save))
+    options = CompareOptions(**words, search=_search_options_if_requested(search, seed, save))
     _refuse_conflicting_compare_options(options)
-    with Screen(is_color_allowed() and not no_color, progress=False) as screen:
+    with Screen(is_no_color_unset() and not no_color, progress=False) as screen:
         return compare_senders(options, screen)
 
 
-def _make_search_options(seconds: int | None, seed: int | None, save: Path | None) -> "SearchOptions | None":
+def _search_options_if_requested(seconds: int | None, seed: int | None, save: Path | None) -> "SearchOptions | None":
     """The options of a search, if one is requested."""
     if seconds is None:
         if seed is not None or save is not None:
@@ -291,12 +291,12 @@ def measure_command(no_color: bool, **words: Any) -> int:
     file. Both senders are programs, which answer each segment; equal seeds lose equal packets. Without --base the
     sender before is the one that ./prove has proved last in this tree.
     """
-    require_module("numpy")
-    from pdsuite.commands.measure import MeasureOptions, measure_senders
+    raise_if_module_missing("numpy")
+    from pdsuite.commands.measure import MeasureOptions, measure_transfers_of_two_senders
 
     gc.enable()  # transfers are many values
-    with Screen(is_color_allowed() and not no_color, progress=True) as screen:
-        return measure_senders(MeasureOptions(**words), screen)
+    with Screen(is_no_color_unset() and not no_color, progress=True) as screen:
+        return measure_transfers_of_two_senders(MeasureOptions(**words), screen)
 
 
 @pdsuite.command(name="search")
@@ -309,7 +309,7 @@ def measure_command(no_color: bool, **words: Any) -> int:
     help="Search so long at most, not 60; cutting down may take as long again.",
 )
 @click.option("--with", "sender", metavar="SENDER", help="A folder of programs, a tree or a commit, if not this tree.")
-@search_options
+@save_and_seed_options
 @no_color_option
 def search_command(
     pattern: str, seconds: int, sender: str | None, seed: int | None, save: Path | None, no_color: bool
@@ -322,7 +322,7 @@ def search_command(
     from pdsuite.commands.search import SearchOptions, search_state
 
     gc.enable()  # a search makes many values
-    with Screen(is_color_allowed() and not no_color, progress=False) as screen:
+    with Screen(is_no_color_unset() and not no_color, progress=False) as screen:
         return search_state(pattern, sender, SearchOptions(seconds, seed, save), screen)
 
 
@@ -348,14 +348,14 @@ def import_command(source: Path, target: Path, keep_packets: bool, is_json: bool
     # Only who imports pays for what reads the kernel's scripts.
     from pdsuite.commands.import_ import import_scripts
 
-    with Screen(is_color_allowed() and not no_color, progress=False) as screen:
+    with Screen(is_no_color_unset() and not no_color, progress=False) as screen:
         return import_scripts(source, target, keep_packets, is_json, screen)
 
 
 def main() -> int:
     """Runs the command that the arguments name, and answers the exit status."""
     if sys.stdout is None:
-        print_error("pdsuite: standard output is closed")
+        print_line_on_stderr("pdsuite: standard output is closed")
         return FAULT
     # Scripts and outcomes make no cycles, and the more there are, the longer it takes to look for some.
     gc.disable()
@@ -365,23 +365,23 @@ def main() -> int:
         status = pdsuite.main(prog_name="pdsuite", standalone_mode=False)
         return status if isinstance(status, int) else 0
     except click.ClickException as error:
-        error = with_new_option_name(error)
+        error = error_with_new_option_name(error)
         error.message = printable_text(error.message)
         error.show()
     except StoppedError as stopped:
         return stopped.status
     except PlacedFault as fault:
-        print_error(str(fault))
+        print_line_on_stderr(str(fault))
     except Fault as fault:
-        print_error(f"pdsuite: {fault}")
+        print_line_on_stderr(f"pdsuite: {fault}")
     except OutputError as unwritten:
         _redirect_output_to_null()
         if not unwritten.is_reader_gone:
-            print_error(f"pdsuite: standard output: {unwritten}")
+            print_line_on_stderr(f"pdsuite: standard output: {unwritten}")
     except OSError as error:
         _redirect_output_to_null()
         place = f"{printable_octets(os.fsencode(error.filename))}: " if error.filename else ""
-        print_error(f"pdsuite: {place}{error_reason(error)}")
+        print_line_on_stderr(f"pdsuite: {place}{error_reason(error)}")
     return FAULT
 
 

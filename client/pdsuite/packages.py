@@ -5,13 +5,13 @@ from importlib.util import find_spec
 from pdsuite.faults import Fault
 
 
-def require_module(module: str) -> None:
+def raise_if_module_missing(module: str) -> None:
     """Raises a fault that names the package of a module, where that isn't installed."""
-    if reason := missing_module_message(module):
+    if reason := message_if_module_missing(module):
         raise Fault(reason)
 
 
-def missing_module_message(module: str) -> str:
+def message_if_module_missing(module: str) -> str:
     """The words that name the package of a module, where that isn't installed."""
     if find_spec(module) is not None:
         return ""

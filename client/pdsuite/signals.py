@@ -32,14 +32,14 @@ class Stop:
             signal.set_wakeup_fd(self._writer, warn_on_full_buffer=False)
         for number in self._signals:
             if signal.getsignal(number) != signal.SIG_IGN:
-                signal.signal(number, self._note_first_signal)
+                signal.signal(number, self._note_signal_and_restore_defaults)
         return self
 
     def __exit__(self, *error: object) -> None:
         if self._signals:
             signal.set_wakeup_fd(-1)
         for number in self._signals:
-            if signal.getsignal(number) == self._note_first_signal:
+            if signal.getsignal(number) == self._note_signal_and_restore_defaults:
                 signal.signal(number, signal.SIG_DFL)
         os.close(self._reader)
         os.close(self._writer)
@@ -53,8 +53,8 @@ class Stop:
         if self._number:
             raise StoppedError(self._number)
 
-    def _note_first_signal(self, number: int, frame: FrameType | None) -> None:
+    def _note_signal_and_restore_defaults(self, number: int, frame: FrameType | None) -> None:
         self._number = number
         for each in self._signals:
-            if signal.getsignal(each) == self._note_first_signal:
+            if signal.getsignal(each) == self._note_signal_and_restore_defaults:
                 signal.signal(each, signal.SIG_DFL)

@@ -13,7 +13,7 @@ from selenium.webdriver.chrome.service import Service
 from selenium.webdriver.common.by import By
 from selenium.webdriver.remote.webelement import WebElement
 
-from pdsuite.page.links import page_file_of
+from pdsuite.page.links import page_file_name_of
 from tests.helpers import FAILS, HANGS, OPENED, TOP
 
 WORDS = ("--headless=new", "--no-sandbox", "--disable-gpu", "--disable-dev-shm-usage", "--hide-scrollbars")
@@ -55,7 +55,7 @@ class Browser:
 
     def look_at(self, path: str) -> None:
         """Shows the page of a script."""
-        self.look(f"scripts/{page_file_of(path)}")
+        self.look(f"scripts/{page_file_name_of(path)}")
 
     def all(self, selector: str) -> list[WebElement]:
         """The elements that a selector finds."""

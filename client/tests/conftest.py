@@ -12,7 +12,7 @@ import pytest
 from _pytest.terminal import TerminalReporter
 
 from pdsuite.faults import Fault
-from pdsuite.programs.locate import RECORD, locate_program
+from pdsuite.programs.locate import RECORD, locate_given_or_proved_program
 from pdsuite.signals import Stop
 from pdsuite.watch.watcher import Watcher
 from tests.helpers import HANGS, TOP, Call, Called
@@ -85,7 +85,7 @@ def programs(proved: None, tmp_path_factory: pytest.TempPathFactory) -> Path:
 def recording_programs(programs: Path, tmp_path_factory: pytest.TempPathFactory) -> Path:
     """A folder with the built programs and pdrecord; where that isn't built, what needs it is skipped."""
     try:
-        recorder = locate_program(RECORD)
+        recorder = locate_given_or_proved_program(RECORD)
     except Fault as fault:
         pytest.skip(f"needs the built program: {fault}")
     folder = tmp_path_factory.mktemp("recording_programs")

@@ -34,7 +34,7 @@ def meaning_of(text: bytes, settings: Settings) -> str:
 class FakeExplainer:
     """A fake of who knows the explanations of scripts."""
 
-    def explain(self, outcome: ScriptOutcome, wanted: WantedScript) -> ScriptOutcome:
+    def outcome_with_explanation(self, outcome: ScriptOutcome, wanted: WantedScript) -> ScriptOutcome:
         """Explains a script."""
         return replace(outcome, why=meaning_of(wanted.text.octets, wanted.settings))
 
@@ -73,7 +73,7 @@ class Model:
         lines = (b"job %d %s steps %d\n" % (number, name, len(self.texts[name])) for number, name in jobs)
         return answer, b"".join(lines)
 
-    def require_idle(self) -> None:
+    def require_alive_and_silent(self) -> None:
         """It never ends by itself."""
 
     def fileno(self) -> int:

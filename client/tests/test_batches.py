@@ -10,17 +10,17 @@ from pdsuite.programs.protocol import (
     UnexpectedAnswerError,
     add_command,
     parse_new_rows,
-    refusal_name,
+    refusal_kind_if_refused,
     rows_before_total,
-    script_name,
+    script_name_of_number,
 )
 from pdsuite.programs.protocol import set_and_show_commands
 from pdsuite.programs.verdict import Row, Verdict
-from pdsuite.run.batches import BATCH_SIZE, SuiteScript, group_into_batches, split_by_size
+from pdsuite.run.batches import BATCH_SIZE, SuiteScript, batch_scripts_by_equal_settings, split_into_chunks_of_size
 from pdsuite.run.outcomes import ScriptOutcome, PassWarning, OutcomeTotals
 from pdsuite.run.run_batches import SettledPiece, run_batch
 from pdsuite.scripts.settings import Settings
-from pdsuite.scripts.text import make_text
+from pdsuite.scripts.text import make_newline_ended_text_within_limits
 
 FASTER: Settings = (("mss", 1000),)
 
@@ -31,8 +31,8 @@ def scripts(count: int, settings: Settings = (), first: int = 0) -> list[SuiteSc
 
 
 def test_parts_are_full_but_for_the_last() -> None:
-    assert split_by_size(range(7), 3) == [(0, 1, 2), (3, 4, 5), (6,)]
-    assert split_by_size("", 3) == []
+    assert split_into_chunks_of_size(range(7), 3) == [(0, 1, 2), (3, 4, 5), (6,)]
+    assert split_into_chunks_of_size("", 3) == []
 
 
 @pytest.mark.parametrize(
@@ -40,26 +40,26 @@ def test_parts_are_full_but_for_the_last() -> None:
     [(1, [[1]]), (64, [[64]]), (65, [[64, 1]]), (1_024, [[64] * 16]), (1_025, [[64] * 16, [1]])],
 )
 def test_runs_hold_1024_scripts_in_pieces_of_64(count: int, sizes: list[list[int]]) -> None:
-    assert [[len(piece) for piece in run.pieces] for run in group_into_batches(scripts(count))] == sizes
+    assert [[len(piece) for piece in run.pieces] for run in batch_scripts_by_equal_settings(scripts(count))] == sizes
 
 
 def test_scripts_with_equal_settings_are_one_run() -> None:
     mixed = [*scripts(2), *scripts(1, FASTER, 2), *scripts(1, (), 3)]
-    runs = group_into_batches(mixed)
+    runs = batch_scripts_by_equal_settings(mixed)
     assert [run.settings for run in runs] == [(), FASTER]
     assert [[script.index for script in run.pieces[0]] for run in runs] == [[0, 1, 3], [2]]
 
 
 def test_names_differ_and_are_no_words_of_commands() -> None:
-    names = [script_name(number).decode() for number in range(1_024)]
+    names = [script_name_of_number(number).decode() for number in range(1_024)]
     assert len(set(names)) == 1_024
     assert all(name.isalnum() and name.isascii() and len(name) <= 64 for name in names)
     assert not {"add", "edit", "remove", "set", "show", "settle", "total", "refused"} & set(names)
 
 
 def test_commands_are_written_as_the_program_reads_them() -> None:
-    assert add_command(b"s0", make_text(b"a\nb")) == b"add s0 2\na\nb\n"
-    assert add_command(b"s1", make_text(b"")) == b"add s1 0\n"
+    assert add_command(b"s0", make_newline_ended_text_within_limits(b"a\nb")) == b"add s0 2\na\nb\n"
+    assert add_command(b"s1", make_newline_ended_text_within_limits(b"")) == b"add s1 0\n"
     assert set_and_show_commands("mss", "10") == b"set mss 10\nshow\n"
 
 
@@ -71,7 +71,7 @@ def answer(*rows: str) -> bytes:
 
 def test_rows_are_read_with_their_words() -> None:
     answered = answer("s0 pass 9", "s1 fail 9 seq", "s2 syntax 1", "s3 unsupported 2", "s4 limit 3")
-    assert parse_new_rows(answered, b"", [script_name(it) for it in range(5)], 5) == [
+    assert parse_new_rows(answered, b"", [script_name_of_number(it) for it in range(5)], 5) == [
         Row(Verdict.PASS, 9),
         Row(Verdict.FAIL, 9, "seq"),
         Row(Verdict.SYNTAX, 1),
@@ -100,7 +100,7 @@ class LongRowProgram:
     def __exit__(self, *why: object) -> None:
         ...
 
-    def query_steps(
+    def query_with_errors_as_generator(
         self, commands: bytes, longest: int, most_errors: int
     ) -> Generator[None, None, tuple[bytes, bytes]]:
         yield from ()  # it never waits
@@ -117,8 +117,8 @@ def test_an_answer_may_have_the_rows_of_all_pieces_before() -> None:
     def start(settings: Settings) -> Any:
         return program
 
-    (run,) = group_into_batches(scripts(BATCH_SIZE))
-    steps = list(run_batch(run, start, lambda script: make_text(b"a\n")))
+    (run,) = batch_scripts_by_equal_settings(scripts(BATCH_SIZE))
+    steps = list(run_batch(run, start, lambda script: make_newline_ended_text_within_limits(b"a\n")))
     assert all(isinstance(it, SettledPiece) for it in steps) and len(steps) == len(run.pieces) > 1
 
 
@@ -163,8 +163,8 @@ def test_of_a_line_that_is_not_due_at_most_80_octets_are_shown(line: bytes, mess
 
 
 def test_refusals_are_named_by_their_word() -> None:
-    assert refusal_name(b"refused 4 BadValue\n" + answer()) == "BadValue"
-    assert refusal_name(answer()) is None
+    assert refusal_kind_if_refused(b"refused 4 BadValue\n" + answer()) == "BadValue"
+    assert refusal_kind_if_refused(answer()) is None
 
 
 @pytest.mark.parametrize(
@@ -181,7 +181,7 @@ def test_refusals_are_named_by_their_word() -> None:
     ],
 )
 def test_the_status_tells_whether_all_passed(verdicts: list[Verdict], status: int) -> None:
-    assert OutcomeTotals.of_outcomes(outcome(it) for it in verdicts).exit_status() == status
+    assert OutcomeTotals.of_outcomes(outcome(it) for it in verdicts).pass_fail_or_error_exit_status() == status
 
 
 def outcome(verdict: Verdict, number: int = 1, is_strict: bool = False) -> ScriptOutcome:
@@ -209,10 +209,11 @@ def test_a_script_without_an_event_is_a_warning_that_counts_where_it_is_strict()
     counted = OutcomeTotals.of_outcomes([empty, strict, outcome(Verdict.PASS)])
     assert str(counted).endswith("total 3 pass 3 fail 0 syntax 0 unsupported 0 limit 0 error 0 not run 0 warnings 2")
     assert [
-        OutcomeTotals.of_outcomes(it).exit_status() for it in ([empty], [strict], [strict, outcome(Verdict.ERROR)])
+        OutcomeTotals.of_outcomes(it).pass_fail_or_error_exit_status()
+        for it in ([empty], [strict], [strict, outcome(Verdict.ERROR)])
     ] == [
         0,
         1,
         2,
     ]
-    assert (counted.passing_count, counted.warnings) == (2, 2)
+    assert (counted.passing_count_without_strict_warnings, counted.warnings) == (2, 2)

@@ -12,7 +12,7 @@ from pdsuite.compare.built_senders import build_missing_programs
 from pdsuite.compare.senders import Sender
 from pdsuite.output.screen import Screen
 from pdsuite.programs import build
-from pdsuite.programs.build import Build, BuildError, NoKeptBuildError, build_if_needed, find_kept_build
+from pdsuite.programs.build import Build, BuildError, NoKeptBuildError, build_if_needed_and_get_folder, find_kept_build
 from pdsuite.programs.verdict import Verdict
 from pdsuite.search.oracle import ConfiguredScript, ProgramOracle
 from pdsuite.signals import Stop, StoppedError
@@ -136,7 +136,7 @@ def test_where_an_optimised_program_stops_the_plain_one_says_why(tree: Tree, mon
     with Stop(()) as stop, Screen(False, False) as screen:
         (sender,) = build_missing_programs([Sender("it", None, tree.top)], "optimised", stop, screen)
         assert (str(sender), sender.is_proved) == ("it, unproved", False)
-        (row,) = ProgramOracle(sender, stop).rows([ConfiguredScript((), b"x\n")])
+        (row,) = ProgramOracle(sender, stop).run_scripts_for_rows([ConfiguredScript((), b"x\n")])
     assert (row.verdict, row.word) == (Verdict.ERROR, "pdregress: unproved: Faulted: kind=overflow")
 
 
@@ -146,7 +146,10 @@ def test_many_scripts_are_run_by_an_optimised_build_where_one_is_kept(
     (tree.bin / "pdregress").write_text("#!/bin/sh\necho $BUILT >$NOTES/built\nexit 2\n")
     monkeypatch.setenv("FAKE_PROGRAMS", str(tree.bin))
     with Stop(()) as stop:
-        for folder in (build_if_needed(tree.top, "optimised", stop), build_if_needed(tree.top, "plain", stop)):
+        for folder in (
+            build_if_needed_and_get_folder(tree.top, "optimised", stop),
+            build_if_needed_and_get_folder(tree.top, "plain", stop),
+        ):
             assert folder.is_dir()
     write(tree.suite / "many", **{f"s{number}": ROW for number in range(1_998)})
     call(tree, "run", "suite")
@@ -188,7 +191,9 @@ def test_phases_are_heard_through_a_descriptor(tree: Tree) -> None:
     phases = []
     with Stop(()) as stop:
         assert find_kept_build(tree.top) is None
-        folder = build_if_needed(tree.top, "plain", stop, lambda phase, seconds: phases.append((phase, seconds >= 0)))
+        folder = build_if_needed_and_get_folder(
+            tree.top, "plain", stop, lambda phase, seconds: phases.append((phase, seconds >= 0))
+        )
     assert folder == find_kept_build(tree.top) and {it.name for it in folder.iterdir()} == {
         "pdregress",
         "pdrecord",
@@ -213,10 +218,10 @@ def test_what_comes_of_a_build_that_does_not_come_to_an_end(tree: Tree) -> None:
     with Stop(()) as stop:
         (tree.top / "tools/combined.rattle").write_text("wrong\n")
         with pytest.raises(BuildError, match="NotCompiled: the program doesn't compile"):
-            build_if_needed(tree.top, "any", stop)
+            build_if_needed_and_get_folder(tree.top, "any", stop)
         (tree.notes.parent / "kit/KIT-ID").write_text("another\n")
         with pytest.raises(NoKeptBuildError, match="is of another kit than rattle-kit-13f"):
-            build_if_needed(tree.top, "any", stop)
+            build_if_needed_and_get_folder(tree.top, "any", stop)
     (tree.notes.parent / "kit/KIT-ID").unlink()
     assert find_kept_build(tree.top) is None
 
@@ -226,5 +231,5 @@ def test_a_signal_ends_a_build(tree: Tree) -> None:
     with Stop((signal.SIGUSR1,)) as stop:
         os.kill(os.getpid(), signal.SIGUSR1)
         with pytest.raises(StoppedError):
-            build_if_needed(tree.top, "any", stop)
+            build_if_needed_and_get_folder(tree.top, "any", stop)
     assert not list((tree.notes / "cache/pdregress/builds").glob("*.part"))

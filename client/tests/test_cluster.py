@@ -14,7 +14,7 @@ from pathlib import Path
 import pytest
 
 from pdsuite.faults import Fault
-from pdsuite.packages import require_module
+from pdsuite.packages import raise_if_module_missing
 from tests.cluster_fixture import LocalCluster, number_of
 from tests.helpers import FAILS, HANGS, PASSES, TOP, Call, ends, wait_for, write
 
@@ -303,5 +303,5 @@ def test_workers_of_this_machine_are_not_asked_for_beside_a_scheduler(fake_progr
 
 def test_a_package_that_is_missing_is_named() -> None:
     with pytest.raises(Fault, match="^python3-nowhere isn't installed: apt-get install --no-install-recommends "):
-        require_module("nowhere")
-    require_module("click")
+        raise_if_module_missing("nowhere")
+    raise_if_module_missing("click")

@@ -8,12 +8,12 @@ import pytest
 from pdsuite.diagram.canvas import WIDE
 from pdsuite.diagram.failing_line import failing_line_of
 from pdsuite.diagram.labels import MOST_ROWS, Label, place_in_rows
-from pdsuite.diagram.pictures import png_file, svg_file, svg_for_page
+from pdsuite.diagram.pictures import png_octets, standalone_svg_octets, wide_and_narrow_svgs_for_page
 from pdsuite.diagram.plot import draw_figure
-from pdsuite.diagram.timeline import timeline_of
+from pdsuite.diagram.timeline import timeline_if_any_packet
 from pdsuite.diagram.timeline_parts import Arrival, ExpectedSegment, Flag, Note, SackBlock, Segment, SegmentKind, Stair
 from pdsuite.diagram.timeline_parts import Timeline
-from pdsuite.page.diagram_choice import DiagramChoice, Plot, choose_plots
+from pdsuite.page.diagram_choice import DiagramChoice, Plot, choose_plot_of_each_script
 from pdsuite.programs.trace import traced_events_in
 from pdsuite.programs.verdict import Row, Verdict
 from pdsuite.run.outcomes import ScriptOutcome
@@ -23,7 +23,7 @@ RECORDINGS = Path(__file__).with_name("recordings")
 
 def strokes(name: str) -> Timeline:
     """The strokes of a recording."""
-    found = timeline_of(traced_events_in((RECORDINGS / f"{name}.txt").read_text()))
+    found = timeline_if_any_packet(traced_events_in((RECORDINGS / f"{name}.txt").read_text()))
     assert found is not None
     return found
 
@@ -129,7 +129,7 @@ RESET = """+0.5 < S 0:0(0) win 100 <mss 1000>
 
 
 def test_a_reset_ends_the_stairs_and_times_count_from_the_start_of_the_run() -> None:
-    found = timeline_of(
+    found = timeline_if_any_packet(
         traced_events_in("+0 socket(..., SOCK_STREAM, 6) = 3\n//= at 0.000000 CLOSED connection:none\n" + RESET)
     )
     assert found is not None
@@ -161,7 +161,7 @@ FINS = f"""+0.5 < S 0:0(0) win 100 <mss 1000>
 
 
 def test_a_fin_or_rst_that_is_dropped_is_marked_where_acknowledged_octets_end() -> None:
-    found = timeline_of(traced_events_in(FINS))
+    found = timeline_if_any_packet(traced_events_in(FINS))
     assert found is not None
     assert found.arrivals == (
         Arrival(500_000, 0, Flag.SYN),
@@ -176,7 +176,7 @@ def test_a_fin_or_rst_that_is_dropped_is_marked_where_acknowledged_octets_end() 
 
 
 def test_what_is_dropped_is_drawn_just_above_the_stairs_and_raises_nothing() -> None:
-    found = timeline_of(traced_events_in(FINS))
+    found = timeline_if_any_packet(traced_events_in(FINS))
     assert found is not None
     picture = draw_figure(found, WIDE)
     axes = picture.axes[0]
@@ -201,7 +201,7 @@ def test_what_is_dropped_is_drawn_just_above_the_stairs_and_raises_nothing() -> 
     "recording", ["", "0 close(3) = 0\n//= at 0.000000 CLOSED connection:none\n", RESET[:-30], "?"]
 )
 def test_without_packets_or_states_there_are_no_strokes(recording: str) -> None:
-    assert timeline_of(traced_events_in(recording)) is None
+    assert timeline_if_any_packet(traced_events_in(recording)) is None
 
 
 def script_of(name: str) -> str:
@@ -222,7 +222,7 @@ def test_the_failing_packet_is_an_outline_and_what_was_sent_is_filled_and_what_c
     failing = failing_line_of(script, 16, WRONG)
     assert failing is not None
     assert (failing.inputs, failing.packets, failing.moment) == (9, 6, 310_000)
-    found = timeline_of(traced_events_in((RECORDINGS / "fails.txt").read_text()), failing)
+    found = timeline_if_any_packet(traced_events_in((RECORDINGS / "fails.txt").read_text()), failing)
     assert found is not None and found.failure is not None and found.has_later_events
     assert found.failure.expected == ExpectedSegment(310_000, 310_000, 1, 1001)
     assert found.failure.actual == Segment(310_000, 5001, 6001, SegmentKind.NEW)
@@ -240,7 +240,7 @@ def test_a_missing_packet_has_an_outline_alone_and_its_moments() -> None:
     assert (failing.inputs, failing.packets, failing.moment, failing.actual) == (1, 0, 300_000, None)
     assert (failing.expected.first, failing.expected.last) == (100_000, 300_000)
     recording = RESET.replace("+0.5 <", "+0 <").replace("at 0.500000", "at 0.000000")
-    found = timeline_of(traced_events_in(recording), failing)
+    found = timeline_if_any_packet(traced_events_in(recording), failing)
     assert found is not None and found.failure is not None
     assert (found.failure.at, found.failure.expected, found.failure.actual) == (
         300_000,
@@ -274,20 +274,20 @@ NAMES = ["$\\frac{$", '<script>alert(1)</script>"&', "#1f5fae", 'id="new"', "x" 
 
 @pytest.mark.parametrize("name", NAMES)
 def test_a_name_is_a_text_in_files_whatever_it_is(name: str) -> None:
-    octets = svg_file(strokes("sack"), name)
-    assert octets == svg_file(strokes("sack"), name)
+    octets = standalone_svg_octets(strokes("sack"), name)
+    assert octets == standalone_svg_octets(strokes("sack"), name)
     text = octets.decode()
     assert text.count("<svg") == 1 and "<script" not in text and "<metadata" not in text
     shown = name if len(name) <= 120 else "..." + name[-117:]
     for sign, words in (("&", "&amp;"), ("<", "&lt;"), (">", "&gt;"), ('"', "&quot;")):
         shown = shown.replace(sign, words)
     assert f">{shown}</text>" in text
-    assert png_file(strokes("sack"), name).startswith(b"\x89PNG")
+    assert png_octets(strokes("sack"), name).startswith(b"\x89PNG")
 
 
 def test_the_same_strokes_give_the_same_octets_with_classes_and_variables() -> None:
-    text = svg_for_page(strokes("sack"))
-    assert text == svg_for_page(strokes("sack"))
+    text = wide_and_narrow_svgs_for_page(strokes("sack"))
+    assert text == wide_and_narrow_svgs_for_page(strokes("sack"))
     assert text.count("<svg") == 2
     for name in ("new", "again", "sack", "ack", "cwnd", "ssthresh"):
         assert f'class="{name}"' in text and f"var(--diagram-{name})" in text
@@ -298,18 +298,18 @@ def test_the_same_strokes_give_the_same_octets_with_classes_and_variables() -> N
 def test_which_scripts_are_drawn() -> None:
     verdicts = [Verdict.FAIL, Verdict.PASS, Verdict.FAIL, Verdict.SYNTAX, Verdict.FAIL]
     outcomes = [ScriptOutcome(f"a/{number}.pkt", (), Row(it, 1)) for number, it in enumerate(verdicts)]
-    assert list(choose_plots(outcomes, DiagramChoice(None, 2))) == [
+    assert list(choose_plot_of_each_script(outcomes, DiagramChoice(None, 2))) == [
         Plot.PAGE,
         Plot.NONE,
         Plot.PAGE,
         Plot.NONE,
         Plot.NONE,
     ]
-    assert list(choose_plots(outcomes, DiagramChoice("1.pkt", 0))) == [
+    assert list(choose_plot_of_each_script(outcomes, DiagramChoice("1.pkt", 0))) == [
         Plot.NONE,
         Plot.FILES,
         Plot.NONE,
         Plot.NONE,
         Plot.NONE,
     ]
-    assert list(choose_plots(outcomes, DiagramChoice("a/*", 50))) == [Plot.FILES] * 5
+    assert list(choose_plot_of_each_script(outcomes, DiagramChoice("a/*", 50))) == [Plot.FILES] * 5

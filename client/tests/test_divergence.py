@@ -9,7 +9,7 @@ from pdsuite.compare.comparison import (
     compare_results,
     counts_by_folder_and_total,
 )
-from pdsuite.compare.divergence import PlayedEvent, first_divergence, played_events
+from pdsuite.compare.divergence import PlayedEvent, first_divergence_in_event_or_time, parse_played_events
 from pdsuite.programs.batch_protocol import ProgramAnswer
 from pdsuite.programs.recorder import Recording, recording_cases, recording_from_answer
 from pdsuite.programs.verdict import Row, Verdict
@@ -25,14 +25,14 @@ FAIL = Row(Verdict.FAIL, 7, "seq")
 
 
 def test_the_events_of_a_recording_have_their_moments_and_states() -> None:
-    assert list(played_events(HEAD + FIRST)) == [
+    assert list(parse_played_events(HEAD + FIRST)) == [
         PlayedEvent("+0 write(4, ..., 3000) = 3000", "0.200000", "ESTABLISHED cwnd:4000 DupAcks:2"),
         PlayedEvent("+0 > . 1:1001(1000) ack 1", "0.200000", "ESTABLISHED cwnd:4000 DupAcks:2"),
     ]
 
 
 def test_recordings_part_at_the_first_packet_that_differs() -> None:
-    parting = first_divergence(HEAD + FIRST + SECOND, HEAD + SECOND + FIRST)
+    parting = first_divergence_in_event_or_time(HEAD + FIRST + SECOND, HEAD + SECOND + FIRST)
     assert parting is not None and parting.before is not None and parting.after is not None
     assert str(parting.before) == "+0 > . 1:1001(1000) ack 1 // 0.200000"
     assert str(parting.after) == "+0 > . 1001:2001(1000) ack 1 // 0.200000"
@@ -40,25 +40,25 @@ def test_recordings_part_at_the_first_packet_that_differs() -> None:
 
 
 def test_recordings_part_where_a_packet_leaves_later() -> None:
-    parting = first_divergence(HEAD + SECOND, HEAD + LATE)
+    parting = first_divergence_in_event_or_time(HEAD + SECOND, HEAD + LATE)
     assert parting is not None and parting.after is not None and parting.after.moment == "0.300000"
 
 
 def test_recordings_part_where_one_ends() -> None:
-    parting = first_divergence(HEAD + FIRST, HEAD)
+    parting = first_divergence_in_event_or_time(HEAD + FIRST, HEAD)
     assert parting is not None and parting.before is not None and parting.after is None
 
 
 def test_the_states_before_may_differ_and_a_state_alone_parts_nothing() -> None:
     other = HEAD.replace("cwnd:4000", "cwnd:2000")
-    assert first_divergence(HEAD + FIRST, other + FIRST) is None
-    parting = first_divergence(HEAD + FIRST, other)
+    assert first_divergence_in_event_or_time(HEAD + FIRST, other + FIRST) is None
+    parting = first_divergence_in_event_or_time(HEAD + FIRST, other)
     assert parting is not None
     assert (parting.state_before, parting.state_after) == (
         "ESTABLISHED cwnd:4000 DupAcks:2",
         "ESTABLISHED cwnd:2000 DupAcks:2",
     )
-    assert first_divergence(HEAD.replace("what it shows", "x") + FIRST, HEAD + FIRST) is None
+    assert first_divergence_in_event_or_time(HEAD.replace("what it shows", "x") + FIRST, HEAD + FIRST) is None
 
 
 def outcome(path: str, row: Row) -> ScriptOutcome:

@@ -235,7 +235,7 @@ def test_where_its_package_is_missing_that_is_named(tmp_path: Path, monkeypatch:
     command = copied(tmp_path)
     text = (tmp_path / "client/pdsuite/main.py").read_text()
     (tmp_path / "client/pdsuite/main.py").write_text(
-        text.replace('require_module("tomlkit")', 'require_module("nowhere")')
+        text.replace('raise_if_module_missing("tomlkit")', 'raise_if_module_missing("nowhere")')
     )
     done = subprocess.run([command, "expect", "."], cwd=tmp_path, capture_output=True, text=True)
     line = "python3-nowhere isn't installed: apt-get install --no-install-recommends python3-nowhere"

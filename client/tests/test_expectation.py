@@ -34,7 +34,11 @@ FITS: list[tuple[Row, list[str], list[str]]] = [
 @pytest.mark.parametrize(("row", "fitting", "others"), FITS, ids=[str(it[0]) for it in FITS])
 def test_the_first_words_of_a_row_fit_it(row: Row, fitting: list[str], others: list[str]) -> None:
     assert all(can_begin_failing_row(words) for words in [*fitting, *others])
-    assert [words for words in [*fitting, *others] if Expectation(words, "x").fits_row(row.whole_text)] == fitting
+    assert [
+        words
+        for words in [*fitting, *others]
+        if Expectation(words, "x").is_beginning_of_row(row.whole_text_without_name)
+    ] == fitting
 
 
 NO_ROWS = [
@@ -114,9 +118,10 @@ def test_known_rows_are_counted_apart_and_make_no_run_fail() -> None:
     other, mended = outcome(SEQ, "syntax"), outcome(Row(Verdict.PASS, 1), "fail")
     zeros = "syntax 0 unsupported 0 limit 0 error 0 not run 0"
     totals = OutcomeTotals.of_outcomes([known, known, passing, outcome(SEQ)])
-    assert (str(totals), totals.exit_status()) == (f"total 4 pass 1 fail 1 {zeros} known 2", 1)
+    assert (str(totals), totals.pass_fail_or_error_exit_status()) == (f"total 4 pass 1 fail 1 {zeros} known 2", 1)
     assert [
-        OutcomeTotals.of_outcomes(it).exit_status() for it in ([known, passing], [known, other], [known, mended])
+        OutcomeTotals.of_outcomes(it).pass_fail_or_error_exit_status()
+        for it in ([known, passing], [known, other], [known, mended])
     ] == [
         0,
         1,

@@ -9,10 +9,15 @@ from pathlib import Path
 
 import pytest
 
-from pdsuite.programs.cause_text import block_lines_of
-from pdsuite.programs.protocol import add_command, parse_blocks, parse_causes, script_name
-from pdsuite.run.script_style import inserts_in_script_style
-from pdsuite.scripts.text import make_text
+from pdsuite.programs.cause_text import explanation_lines_below_first
+from pdsuite.programs.protocol import (
+    add_command,
+    parse_blocks_by_script_and_line,
+    parse_causes_by_script_and_line,
+    script_name_of_number,
+)
+from pdsuite.run.script_style import drop_insert_windows_if_script_has_none
+from pdsuite.scripts.text import make_newline_ended_text_within_limits
 from tests.helpers import BLOCK_LINES, OPENED, PACKET, PASSES, TOP, Call, ends, is_alive, wait_for, wrapped, write
 from tests.lsp_scripts import HEAD, failing_cases, failing_scripts
 
@@ -126,7 +131,7 @@ MANNERS = {
 @pytest.mark.parametrize(("line", "mend"), MANNERS.items(), ids=range(len(MANNERS)))
 def test_a_packet_to_be_inserted_is_written_as_the_script_writes_its_own(line: str, mend: str) -> None:
     reported = (f"mend by inserting: {SENT}", f"actual packet: {SENT}, sent by line 2")
-    assert inserts_in_script_style(reported, f"// Why.\n{line}\n".encode()) == (
+    assert drop_insert_windows_if_script_has_none(reported, f"// Why.\n{line}\n".encode()) == (
         f"mend by inserting: {mend}",
         reported[1],
     )
@@ -195,20 +200,29 @@ def test_each_script_runs_once(tmp_path: Path, fake_program: Path, call: Call) -
 
 
 def test_what_is_told_by_keys_has_the_lines_of_blocks(programs: Path) -> None:
-    texts = [make_text(it.encode()) for _, it in failing_scripts()] + [make_text(it.encode()) for it in failing_cases()]
+    texts = [make_newline_ended_text_within_limits(it.encode()) for _, it in failing_scripts()] + [
+        make_newline_ended_text_within_limits(it.encode()) for it in failing_cases()
+    ]
     far = b"+0 write(4, /* " + b"\xc3\xa9" * 60 + b" */ ..., 300000) = 1\n"
-    texts += [make_text(HEAD.encode() + it) for it in (far, far.replace(b"300000", b"9)"), b"x" * 300 + b"\n", b"")]
-    commands = b"".join(add_command(script_name(number), it) for number, it in enumerate(texts))
+    texts += [
+        make_newline_ended_text_within_limits(HEAD.encode() + it)
+        for it in (far, far.replace(b"300000", b"9)"), b"x" * 300 + b"\n", b"")
+    ]
+    commands = b"".join(add_command(script_name_of_number(number), it) for number, it in enumerate(texts))
     begin: list[str | Path] = [programs / "pdregress", "--explain", "--leftovers"]
     message = [subprocess.run([*begin, *words], input=commands, capture_output=True) for words in ((), ("--json",))]
-    blocks, causes = parse_blocks(message[0].stderr), parse_causes(message[1].stderr)
+    blocks, causes = parse_blocks_by_script_and_line(message[0].stderr), parse_causes_by_script_and_line(
+        message[1].stderr
+    )
     assert len(blocks) > 500 and blocks.keys() == causes.keys()
     for key, (_, *lines) in blocks.items():
-        assert list(block_lines_of(causes[key])) == [it.decode() for it in lines]
+        assert list(explanation_lines_below_first(causes[key])) == [it.decode() for it in lines]
 
 
 @pytest.mark.parametrize("torn", range(1, 4))
 def test_no_line_is_cut_within_an_escape(torn: int) -> None:
     """A line is cut at 200 octets as they are shown, or before the escape that this would tear."""
     kept = "reason: ".ljust(200 - torn, "x")
-    assert block_lines_of({"reason_words": f"{kept}\\xC3\\xA9 and more".removeprefix("reason: ")}) == (f"{kept}..",)
+    assert explanation_lines_below_first({"reason_words": f"{kept}\\xC3\\xA9 and more".removeprefix("reason: ")}) == (
+        f"{kept}..",
+    )

@@ -10,8 +10,8 @@ import jsonschema
 import pytest
 
 from pdsuite.programs.verdict import Row, Verdict
-from pdsuite.run.explanation import explanation_of
-from pdsuite.scripts.text import make_text
+from pdsuite.run.explanation import explanation_with_place_and_packet_fields
+from pdsuite.scripts.text import make_newline_ended_text_within_limits
 from tests.helpers import TOP, Call, write
 from tests.schemas import held, schema_of, validator
 
@@ -28,7 +28,9 @@ PACKETS = {"script_packet": r"+0 > P. 1:501(500) ack 1 win 9 <mss 1000,\x0a    n
 
 def explained(row: Row, cause: Mapping[str, object], text: bytes = SCRIPT) -> Any:
     """The explanation of a row."""
-    return explanation_of(row, {"name": "s7", "line": row.number, **cause}, make_text(text))
+    return explanation_with_place_and_packet_fields(
+        row, {"name": "s7", "line": row.number, **cause}, make_newline_ended_text_within_limits(text)
+    )
 
 
 def place(line: int, column: int, end_line: int, end_column: int, field: str = "") -> dict[str, object]:

@@ -3,19 +3,19 @@
 from pdsuite.packetdrill.items import Call, Packet, TcpOption
 from pdsuite.programs.verdict import Row, Verdict
 from pdsuite.search.find import Find
-from pdsuite.search.finished_script import least_script_of_find, with_head_comment
-from pdsuite.search.inputs import Input, Inputs, make_call, make_inbound_packet
+from pdsuite.search.finished_script import least_script_of_find, prepend_comment_and_rerun_for_row
+from pdsuite.search.inputs import Input, Inputs, make_call, make_dataless_inbound_packet
 from pdsuite.search.renumber import inputs_less_one_round
 from pdsuite.search.simulate import TICK
 from pdsuite.search.states import TracedState
 from tests.test_input_search import Toy
 
-OPENING: tuple[Packet | Call, ...] = (make_call("listen", 3, 1), make_inbound_packet("S", 0, None, 9))
+OPENING: tuple[Packet | Call, ...] = (make_call("listen", 3, 1), make_dataless_inbound_packet("S", 0, None, 9))
 
 
 def ack(number: int, *blocks: int) -> Input:
     options = (TcpOption("sack", blocks),) if blocks else ()
-    return Input(number, make_inbound_packet(".", 1, number, 257, options))
+    return Input(number, make_dataless_inbound_packet(".", 1, number, 257, options))
 
 
 def state(una: int, top: int, is_open: bool = True) -> TracedState:
@@ -46,9 +46,9 @@ def test_where_less_is_sent_than_acknowledged_both_numbers_are_tried() -> None:
 
 def find(change: str, *events: Input) -> Find:
     inputs = Inputs((), tuple(Input(0, it) for it in OPENING) + events, is_exact=False)
-    (recording,) = Toy().recordings([inputs])
+    (recording,) = Toy().record_inputs_or_scripts([inputs])
     found = Find(inputs, recording.text)
-    (row,) = Toy(change).rows([least_script_of_find(found, Toy(), Toy(change)).script])
+    (row,) = Toy(change).run_scripts_for_rows([least_script_of_find(found, Toy(), Toy(change)).script])
     return Find(inputs, recording.text, row)
 
 
@@ -59,14 +59,16 @@ def test_a_script_waits_for_no_more_than_it_expects_and_ends_with_the_line_that_
     lines = done.script.octets.decode().splitlines()
     assert not any("fcntl" in it for it in lines) and done.row == Row(Verdict.FAIL, len(lines), "seq")
     assert [it.split(" ")[0] for it in lines[-3:]] == ["+1", "+2", "+4"]
-    (row,) = Toy().rows([done.script])
+    (row,) = Toy().run_scripts_for_rows([done.script])
     assert row == Row(Verdict.PASS, len(lines))
 
 
 def test_the_comment_names_the_line_where_it_stands() -> None:
     found = find("late", Input(0, make_call("write", 4, "...", 1_000)), Input(9_000_000, TICK))
     done = least_script_of_find(found, Toy(), Toy("late"))
-    headed = with_head_comment(done, lambda row: ["one", f"fails {row and row.whole_text}"], Toy("late"))
+    headed = prepend_comment_and_rerun_for_row(
+        done, lambda row: ["one", f"fails {row and row.whole_text_without_name}"], Toy("late")
+    )
     assert done.row is not None and done.row.number is not None and headed.row is not None
     assert headed.script.octets.decode().startswith(f"// one\n// fails fail {headed.row.number} seq\n")
     assert headed.row.number == done.row.number + 2 == headed.line_count

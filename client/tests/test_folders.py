@@ -76,7 +76,7 @@ def test_a_path_that_stays_away_is_gone(watched_folder: WatchFixture) -> None:
     watched_folder.wait(0.03)
     assert len(watched_folder.rows) == 1
     watched_folder.wait(0.03)
-    assert watched_folder.rows == {} and watched_folder.view.exit_status == 2
+    assert watched_folder.rows == {} and watched_folder.view.last_report_exit_status_if_any == 2
     assert watched_folder.paper.notes == ["pdsuite: no script found"]
     path.write_bytes(b"one\n")
     watched_folder.wait(0)
@@ -231,13 +231,13 @@ def test_the_more_a_look_takes_the_more_rarely_it_is_done(
 ) -> None:
     processor, costs = [0.0], iter([8.0, 0.5, 0.001, 3.0, 0.6])
     monkeypatch.setattr("pdsuite.watch.folders.process_time", lambda: processor[0])
-    walk = watched_folder.folders._walk_folders
+    walk = watched_folder.folders._reread_all_returning_whether_changed
 
     def costly(closed: set[tuple[str, str]], now: float) -> bool:
         processor[0] += next(costs)
         return walk(closed, now)
 
-    monkeypatch.setattr(watched_folder.folders, "_walk_folders", costly)
+    monkeypatch.setattr(watched_folder.folders, "_reread_all_returning_whether_changed", costly)
     (watched_folder.top / "a.pkt").write_bytes(b"one\n")
     periods = []
     for _ in range(3):

@@ -6,18 +6,18 @@ from dataclasses import replace
 import pytest
 
 from pdsuite.compare.comparison import ComparedScript, ComparisonKind
-from pdsuite.compare.groups import first_difference, group_by_first_difference
+from pdsuite.compare.groups import first_differing_field_and_event_kind, group_by_first_difference
 from pdsuite.compare.quantities import (
     Quantities,
     Quantity,
     quantities_of_recording,
     sorted_quantity_changes,
-    total_quantities,
+    summed_quantities_before_and_after,
 )
 from pdsuite.programs.verdict import Row, Verdict
 from pdsuite.reports.comparison import ComparisonReport, comparison_json, plain_comparison
-from pdsuite.reports.comparison_markdown import as_markdown
-from pdsuite.reports.quantities import quantity_lines
+from pdsuite.reports.comparison_markdown import whole_comparison_as_markdown
+from pdsuite.reports.quantities import quantity_lines_of_all_scripts
 from pdsuite.run.outcomes import ScriptOutcome
 from tests.schemas import held
 
@@ -52,7 +52,7 @@ def sent(first: int, flags: str = ".", time: str = "0", by: str = "line4") -> st
 def test_the_first_field_or_fact_that_differs_is_found_with_its_event(
     before: str, after: str, wanted: tuple[str, str]
 ) -> None:
-    assert first_difference(before, after) == wanted
+    assert first_differing_field_and_event_kind(before, after) == wanted
 
 
 def script(path: str, before: str, after: str, comment: str = "") -> ComparedScript:
@@ -100,7 +100,7 @@ def test_as_json_the_groups_name_their_scripts() -> None:
 
 
 def test_as_markdown_no_comment_is_markup() -> None:
-    lines = as_markdown(report_of(), ("one `x`", "y")).plain.splitlines()
+    lines = whole_comparison_as_markdown(report_of(), ("one `x`", "y")).plain.splitlines()
     assert lines[:5] == [
         "## Before and after",
         "",
@@ -137,11 +137,11 @@ def test_the_largest_changes_come_first_by_the_quantity_that_is_asked_for() -> N
     ]
     assert [it.path for it in sorted_quantity_changes(scripts, Quantity.TIME)] == ["two.pkt", "one.pkt"]
     assert [it.path for it in sorted_quantity_changes(scripts, Quantity.AGAIN)] == ["one.pkt", "two.pkt"]
-    assert total_quantities(scripts).after == Quantities(5, 1_000, 0, 200_000 + 300_000 + 9_300_000)
-    assert list(quantity_lines(scripts, Quantity.TIME, False))[1:] == [
+    assert summed_quantities_before_and_after(scripts).after == Quantities(5, 1_000, 0, 200_000 + 300_000 + 9_300_000)
+    assert list(quantity_lines_of_all_scripts(scripts, Quantity.TIME, False))[1:] == [
         "  two.pkt: last octet acknowledged at 9.300000 to 0.300000",
         "  one.pkt: segments 1 to 3, octets sent again 0 to 1,000",
     ]
     many = [replace(it, index=number) for number in range(4) for it in scripts]
-    assert len(list(quantity_lines(many, Quantity.TIME, True))) == 9
-    assert len(list(quantity_lines(scripts[2:], Quantity.TIME, True))) == 0
+    assert len(list(quantity_lines_of_all_scripts(many, Quantity.TIME, True))) == 9
+    assert len(list(quantity_lines_of_all_scripts(scripts[2:], Quantity.TIME, True))) == 0

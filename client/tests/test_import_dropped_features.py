@@ -5,7 +5,7 @@ from pathlib import Path
 import pytest
 
 from pdsuite.imports.conversion import SETUP
-from pdsuite.imports.dropped_features import acting_feature
+from pdsuite.imports.dropped_features import dropped_feature_explaining_failure
 from pdsuite.packetdrill.layout import layout_of
 from pdsuite.run.import_check import MARK
 from tests.helpers import Call, write
@@ -45,14 +45,14 @@ CASES = {
 
 @pytest.mark.parametrize(("text", "kind", "name"), CASES.values(), ids=CASES)
 def test_what_acts_is_told_by_what_came_before(text: str, kind: str, name: str | None) -> None:
-    events = layout_of(text).events
-    found = acting_feature(events, len(events) - 1, kind, False)
+    events = layout_of(text).packets_and_calls
+    found = dropped_feature_explaining_failure(events, len(events) - 1, kind, False)
     assert found is None if name is None else found is not None and found.startswith(f"{name} act")
 
 
 def test_what_leaves_early_is_paced_where_nothing_is_lost() -> None:
-    events = layout_of(SENT + "+.1 < . 1:1(0) ack 2001 win 257\n+.01 > . 10001:12001(2000) ack 1\n").events
-    found = acting_feature(events, len(events) - 1, "time", True)
+    events = layout_of(SENT + "+.1 < . 1:1(0) ack 2001 win 257\n+.01 > . 10001:12001(2000) ack 1\n").packets_and_calls
+    found = dropped_feature_explaining_failure(events, len(events) - 1, "time", True)
     assert found is not None and found.startswith("pacing acts here")
     assert MARK.decode() == f"// why: {SETUP}"
 

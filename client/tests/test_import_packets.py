@@ -9,13 +9,13 @@ from pdsuite.imports.packets import (
     WINDOW,
     Sending,
     Write,
-    moments_of,
+    fixed_moments_of_items,
     packets_as_sent,
-    smss_of,
+    script_smss_from_first_syn,
     writes_before_items,
 )
 from pdsuite.packetdrill.items import Packet
-from pdsuite.packetdrill.reader import read_items
+from pdsuite.packetdrill.reader import parse_items_until_syntax_error
 
 MS = 1_000
 # 2,500 octets at 0.1 s and 500 more at 0.2 s.
@@ -24,7 +24,7 @@ WRITES = (Write(2501, 100 * MS), Write(3001, 200 * MS))
 
 def sent(text: str, moment: int | None = 200 * MS, smss: int = 1000) -> tuple[list[str], tuple[str, ...]]:
     """The packets that come in the place of one, and what was changed."""
-    packet = read_items(f"0 {text}").items[0].what
+    packet = parse_items_until_syntax_error(f"0 {text}").items[0].what
     assert isinstance(packet, Packet)
     packets, changes = packets_as_sent(packet, Sending(smss, moment, WRITES, 4 * MS))
     return [str(it) for it in packets], changes
@@ -78,18 +78,20 @@ def test_p_stands_on_the_last_octet_that_is_queued(text: str, ms: int | None, ex
 
 def test_smss_is_the_lesser_mss() -> None:
     def smss(options: str) -> int:
-        return smss_of(read_items(f"0 > . 1:1(0) <mss 5>\n0 < S 0:0(0) win 1 {options}").items, 1460)
+        return script_smss_from_first_syn(
+            parse_items_until_syntax_error(f"0 > . 1:1(0) <mss 5>\n0 < S 0:0(0) win 1 {options}").items, 1460
+        )
 
     assert [smss(it) for it in ("", "<mss 1000>", "<mss 9000>", "<nop,mss 7,mss 8>")] == [536, 1000, 1460, 7]
     assert smss("<eol,mss 1000>") == 536
-    assert smss_of((), 1460) == 1460
+    assert script_smss_from_first_syn((), 1460) == 1460
 
 
 def test_moments_and_writes_are_counted_up() -> None:
     calls = "write(4, ..., 9) = 9", "write(4, ..., 9) = -1 EAGAIN", "write(4, ..., 9) = 5", "close(4) = 0"
     text = f"1 {calls[0]}\n+.5 {calls[1]}\n+0~+1 > . 1:1(0)\n+1 {calls[2]}\n3 {calls[3]}\n+0 `x`\n* > . 1:1(0)"
-    items = read_items(text).items
-    moments = moments_of(items)
+    items = parse_items_until_syntax_error(text).items
+    moments = fixed_moments_of_items(items)
     assert moments == [1_000_000, 1_500_000, None, None, 3_000_000, 3_000_000, None]
     first = (Write(10, 1_000_000),)
     both = (*first, Write(15, None))

@@ -2,8 +2,8 @@
 
 import pytest
 
-from pdsuite.imports.slow_start import greatest_fitting_abc_limit, initial_window_octets
-from pdsuite.packetdrill.reader import read_items
+from pdsuite.imports.slow_start import fitting_or_greatest_abc_limit, initial_window_octets
+from pdsuite.packetdrill.reader import parse_items_until_syntax_error
 from tests.test_import_conversion import OPEN, imported
 
 # Ten segments of 1,000 octets leave.
@@ -54,9 +54,9 @@ LIMITS = {
 
 @pytest.mark.parametrize(("text", "limit"), LIMITS.values(), ids=LIMITS)
 def test_the_limit_is_the_greatest_under_which_just_that_leaves(text: str, limit: int) -> None:
-    reading = read_items(text)
+    reading = parse_items_until_syntax_error(text)
     assert reading.fault is None
-    assert greatest_fitting_abc_limit(reading.items, 1_000, 10_000) == limit
+    assert fitting_or_greatest_abc_limit(reading.items, 1_000, 10_000) == limit
     assert dict(imported(text).settings)["abc_limit"] == limit
     assert imported(text, {"abc_limit": 5}).settings == (("abc_limit", 5),)
 

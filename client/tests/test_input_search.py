@@ -7,7 +7,7 @@ from pathlib import Path
 
 import pytest
 
-from pdsuite.compare.divergence import played_events
+from pdsuite.compare.divergence import parse_played_events
 from pdsuite.compare.senders import Sender
 from pdsuite.packetdrill.items import Packet, TcpOption
 from pdsuite.programs.build import BuildError
@@ -15,15 +15,15 @@ from pdsuite.programs.recorder import Recording
 from pdsuite.programs.verdict import Row, Verdict
 from pdsuite.scripts.defaults import DEFAULTS
 from pdsuite.search.candidates import CandidateLists
-from pdsuite.search.coverage import SHARES, Coverage, parse_state_pattern
+from pdsuite.search.coverage import SHARES, Coverage, parse_state_pattern_if_valid
 from pdsuite.search.find import DiffersTest, FailsTest, ReachesTest, script_without_trace
-from pdsuite.search.generate import KEYS, scenario_lists
-from pdsuite.search.inputs import Input, Inputs, make_call, make_inbound_packet
-from pdsuite.search.oracle import ConfiguredScript, open_oracles
+from pdsuite.search.generate import KEYS, scenario_lists_of_sizes
+from pdsuite.search.inputs import Input, Inputs, make_call, make_dataless_inbound_packet
+from pdsuite.search.oracle import ConfiguredScript, build_trees_and_open_oracles
 from pdsuite.search.peer import Peer
 from pdsuite.search.scenario import Ending, Handshake, IrregularPacket, Irregularity, Network, PlannedCall, ReceiverPlan
 from pdsuite.search.scenario import Scenario
-from pdsuite.search.search import Search, SearchResult, play_side_by_side
+from pdsuite.search.search import Search, SearchResult, play_input_steps_in_joint_recordings
 from pdsuite.search.simulate import play_scenario
 from pdsuite.signals import Stop
 from tests.fake_sender import lines_of, row_of
@@ -40,7 +40,7 @@ class Toy:
         self.change = change
         self.recorded_count = 0
 
-    def recordings(self, inputs: Sequence[Inputs | ConfiguredScript]) -> list[Recording]:
+    def record_inputs_or_scripts(self, inputs: Sequence[Inputs | ConfiguredScript]) -> list[Recording]:
         self.recorded_count += len(inputs)
         return [self._recording(it) for it in inputs]
 
@@ -48,7 +48,7 @@ class Toy:
         lines, fault = lines_of(it.script_octets(), self.change, "mss" in dict(it.settings))
         return Recording("".join(f"{line}\n" for line in lines), f"pdrecord: {fault}" if fault else "")
 
-    def rows(self, scripts: Sequence[ConfiguredScript]) -> list[Row]:
+    def run_scripts_for_rows(self, scripts: Sequence[ConfiguredScript]) -> list[Row]:
         return [self._row(row_of(it.octets, self.change, "mss" in dict(it.settings)).split()) for it in scripts]
 
     def _row(self, words: list[str]) -> Row:
@@ -56,7 +56,7 @@ class Toy:
             return Row(Verdict.PASS, int(words[1]))
         return Row(Verdict(words[0]), int(words[1]), *words[2:])
 
-    def explain(self, script: ConfiguredScript) -> list[str]:
+    def explanation_lines_of_script(self, script: ConfiguredScript) -> list[str]:
         return ["so it is"]
 
 
@@ -89,7 +89,7 @@ def test_a_find_is_shrunk_to_the_inputs_that_it_needs() -> None:
     calls = [str(it) for it in find.inputs.events]
     assert calls[0].startswith("listen(3") and calls[1].startswith("< S 0:0(0)") and calls[2].startswith("write(4")
     assert len(calls) == 4 and not find.inputs.settings and not find.inputs.is_exact
-    assert [it.line for it in played_events(find.recording)][-2:][0].startswith("+4 > . 1:")
+    assert [it.line for it in parse_played_events(find.recording)][-2:][0].startswith("+4 > . 1:")
 
 
 def test_a_find_that_needs_a_setting_keeps_it() -> None:
@@ -106,21 +106,28 @@ def test_where_only_a_packet_at_the_end_differs_it_is_said_that_no_script_shows_
 
 def test_moments_of_inputs_never_go_back() -> None:
     for seed in range(4):
-        for played in play_side_by_side(map(play_scenario, next(scenario_lists(seed, [48]))), Toy()):
+        for played in play_input_steps_in_joint_recordings(
+            map(play_scenario, next(scenario_lists_of_sizes(seed, [48]))), Toy()
+        ):
             moments = [it.at for it in played.inputs.events]
             assert moments == sorted(moments)
 
 
 def test_the_same_seed_makes_the_same_inputs() -> None:
     made = [
-        [it.inputs for it in play_side_by_side(map(play_scenario, next(scenario_lists(seed, [24]))), Toy())]
+        [
+            it.inputs
+            for it in play_input_steps_in_joint_recordings(
+                map(play_scenario, next(scenario_lists_of_sizes(seed, [24]))), Toy()
+            )
+        ]
         for seed in (3, 3, 4)
     ]
     assert made[0] == made[1] != made[2]
 
 
 def test_inputs_come_under_each_rule_of_the_sender_that_settings_turn_on_or_off() -> None:
-    made = [it for plan in scenario_lists(5, [400]) for it in plan]
+    made = [it for plan in scenario_lists_of_sizes(5, [400]) for it in plan]
     chosen = {it for plan in made for it in plan.settings}
     rules: dict[str, set[object]] = {
         "abc_limit": {2, 3, 8},
@@ -138,13 +145,13 @@ def test_inputs_come_under_each_rule_of_the_sender_that_settings_turn_on_or_off(
 
 
 def test_what_is_recorded_is_saved_without_states() -> None:
-    (recording,) = Toy().recordings([Inputs((), (Input(0, make_call("listen", 3, 1)),))])
+    (recording,) = Toy().record_inputs_or_scripts([Inputs((), (Input(0, make_call("listen", 3, 1)),))])
     assert script_without_trace(recording.text) == b"--tolerance_usecs=0\n+0 listen(3, 1) = 0\n"
 
 
 def test_times_count_from_the_input_before() -> None:
     events = (
-        Input(100_000, make_inbound_packet("S", 0, None, 9, (TcpOption("sackOK"),))),
+        Input(100_000, make_dataless_inbound_packet("S", 0, None, 9, (TcpOption("sackOK"),))),
         Input(350_001, make_call("close", 4)),
     )
     script = Inputs((("mss", 536),), events, is_exact=False).script_octets()
@@ -159,24 +166,33 @@ def peer_of(receiver: ReceiverPlan, *options: TcpOption) -> Peer:
 
 def test_the_peer_acknowledges_in_order_and_tells_holes_by_blocks_the_newest_first() -> None:
     peer = peer_of(ReceiverPlan(each=2, windows=((0, 32_768), (2, 0))), TcpOption("wscale", (7,)))
-    assert [peer.take_segment((1, 1_001)), peer.take_segment((1_001, 2_001))] == [False, True]
+    assert [peer.receive_segment_and_decide_ack((1, 1_001)), peer.receive_segment_and_decide_ack((1_001, 2_001))] == [
+        False,
+        True,
+    ]
     assert str(peer.make_ack()) == "< . 1:1(0) ack 2001 win 256"
-    assert peer.take_segment((3_001, 4_001)) and peer.take_segment((5_001, 6_001))
+    assert peer.receive_segment_and_decide_ack((3_001, 4_001)) and peer.receive_segment_and_decide_ack((5_001, 6_001))
     assert str(peer.make_ack()) == "< . 1:1(0) ack 2001 win 256 <sack 5001:6001 3001:4001>"
-    assert peer.take_segment((2_001, 3_001))
+    assert peer.receive_segment_and_decide_ack((2_001, 3_001))
     assert str(peer.make_ack()) == "< . 1:1(0) ack 4001 win 0 <sack 5001:6001>"
-    assert str(peer.make_irregular_packet(IrregularPacket(0, Irregularity.FIN))) == "< F. 1:1(0) ack 4001 win 0"
-    assert str(peer.make_irregular_packet(IrregularPacket(0, Irregularity.EARLY_ACK))) == "< . 2:2(0) ack 6002 win 0"
+    assert (
+        str(peer.make_irregular_packet_and_count_fin(IrregularPacket(0, Irregularity.FIN)))
+        == "< F. 1:1(0) ack 4001 win 0"
+    )
+    assert (
+        str(peer.make_irregular_packet_and_count_fin(IrregularPacket(0, Irregularity.EARLY_ACK)))
+        == "< . 2:2(0) ack 6002 win 0"
+    )
     blocks = "<sack 5501:5601 5001:5101 4501:4601>"
     assert (
-        str(peer.make_irregular_packet(IrregularPacket(0, Irregularity.SMALL_BLOCKS, 99)))
+        str(peer.make_irregular_packet_and_count_fin(IrregularPacket(0, Irregularity.SMALL_BLOCKS, 99)))
         == f"< . 2:2(0) ack 4001 win 0 {blocks}"
     )
 
 
 def test_a_peer_may_tell_each_segment_as_a_block_of_its_own() -> None:
     peer = peer_of(ReceiverPlan(joins_blocks=False))
-    assert peer.take_segment((2_001, 3_001)) and peer.take_segment((3_001, 4_001))
+    assert peer.receive_segment_and_decide_ack((2_001, 3_001)) and peer.receive_segment_and_decide_ack((3_001, 4_001))
     assert str(peer.make_ack()) == "< . 1:1(0) ack 1 win 65535 <sack 3001:4001>"
 
 
@@ -184,7 +200,7 @@ def test_packets_that_are_lost_come_to_no_peer_and_late_ones_later() -> None:
     network = Network(100_000, lost=frozenset((0,)), late={1: 30_000})
     write = (PlannedCall(0, make_call("write", 4, "...", 2_000)),)
     acts = Scenario((), Handshake((), 1_000, 100_000), network, ReceiverPlan(), write, (), Ending.NONE, 6)
-    (played,) = play_side_by_side([play_scenario(acts)], Toy())
+    (played,) = play_input_steps_in_joint_recordings([play_scenario(acts)], Toy())
     acks = [(it.at, it.what.ack) for it in played.inputs.events if isinstance(it.what, Packet)][2:]
     assert acks == [(330_000, 1), (1_300_000, 2_001)]
 
@@ -192,10 +208,17 @@ def test_packets_that_are_lost_come_to_no_peer_and_late_ones_later() -> None:
 def test_a_peer_that_goes_on_counts_from_what_it_acknowledged_before() -> None:
     peer = peer_of(ReceiverPlan())
     peer.resume_at_numbers(3_001, 4_001, 2)
-    assert str(peer.make_irregular_packet(IrregularPacket(0, Irregularity.SAME_ACK))) == "< . 2:2(0) ack 3001 win 65535"
-    assert str(peer.make_irregular_packet(IrregularPacket(9, Irregularity.OLD_ACK))) == "< . 2:2(0) ack 3000 win 65535"
     assert (
-        str(peer.make_irregular_packet(IrregularPacket(0, Irregularity.EARLY_ACK))) == "< . 2:2(0) ack 4002 win 65535"
+        str(peer.make_irregular_packet_and_count_fin(IrregularPacket(0, Irregularity.SAME_ACK)))
+        == "< . 2:2(0) ack 3001 win 65535"
+    )
+    assert (
+        str(peer.make_irregular_packet_and_count_fin(IrregularPacket(9, Irregularity.OLD_ACK)))
+        == "< . 2:2(0) ack 3000 win 65535"
+    )
+    assert (
+        str(peer.make_irregular_packet_and_count_fin(IrregularPacket(0, Irregularity.EARLY_ACK)))
+        == "< . 2:2(0) ack 4002 win 65535"
     )
 
 
@@ -215,15 +238,15 @@ STATE = (
     ],
 )
 def test_a_pattern_is_facts_of_one_state(pattern: str, is_in: bool) -> None:
-    found = parse_state_pattern(pattern)
+    found = parse_state_pattern_if_valid(pattern)
     assert found is not None and found.is_reached_in(STATE) is is_in
-    test = ReachesTest(found).finds_among([Inputs((), ())], [Recording(STATE)])
+    test = ReachesTest(found).find_or_none_for_each_input([Inputs((), ())], [Recording(STATE)])
     assert (test[0] is not None) is is_in
 
 
 @pytest.mark.parametrize("text", ["", "CLOSING", "state:", ":1", "una:1 x"])
 def test_what_says_no_facts_is_no_pattern(text: str) -> None:
-    assert parse_state_pattern(text) is None
+    assert parse_state_pattern_if_valid(text) is None
 
 
 def test_what_is_reached_is_counted_by_states() -> None:
@@ -235,13 +258,17 @@ def test_what_is_reached_is_counted_by_states() -> None:
     reached.count_reached_by_input(
         "+0 > S. 0:0(0) ack 1\n//= at 0.100000 SYN-RECEIVED una:0 FlightSize:1 expiry:1.100000\n", [], []
     )
-    assert {name: share for name, share in reached.shares.items() if share} == {
+    assert {name: share for name, share in reached.input_shares_by_reached_name.items() if share} == {
         "data in flight": 0.5,
         "a recovery": 0.5,
         "an expiry": 0.5,
         "closed by both at once": 0.5,
     }
-    assert list(reached.shares) == list(SHARES) and reached.options == {"mss": 1} and reached.settings == {"sack": 1}
+    assert (
+        list(reached.input_shares_by_reached_name) == list(SHARES)
+        and reached.options == {"mss": 1}
+        and reached.settings == {"sack": 1}
+    )
 
 
 @pytest.fixture
@@ -286,13 +313,13 @@ def unproved(tree: Tree, monkeypatch: pytest.MonkeyPatch) -> Sender:
 
 def test_a_tree_that_is_not_proved_is_built_once(tree: Tree, unproved: Sender) -> None:
     inputs = [Inputs((("mss", size),), (Input(0, make_call("listen", 3, 1)),)) for size in (536, 536, 1_000)]
-    refused = Inputs((), (Input(0, make_inbound_packet("S", 0, None, 9)),))
-    with Stop(()) as stop, open_oracles([unproved], stop) as (oracle,):
-        recordings = oracle.recordings([*inputs, refused])
+    refused = Inputs((), (Input(0, make_dataless_inbound_packet("S", 0, None, 9)),))
+    with Stop(()) as stop, build_trees_and_open_oracles([unproved], stop) as (oracle,):
+        recordings = oracle.record_inputs_or_scripts([*inputs, refused])
         scripts = [ConfiguredScript(it.settings, script_without_trace(one.text)) for it, one in zip(inputs, recordings)]
         wrong = ConfiguredScript((), b"+0 listen(3, 1) = 7\n")
-        rows = oracle.rows([*scripts, wrong])
-        reported = oracle.explain(wrong)
+        rows = oracle.run_scripts_for_rows([*scripts, wrong])
+        reported = oracle.explanation_lines_of_script(wrong)
     assert [bool(it.text) for it in recordings] == [True, True, True, False]
     assert [str(it) for it in rows] == ["pass 1", "pass 1", "pass 1", "fail seq"] and reported == ["fail seq: so it is"]
     assert tree.builds() == 1
@@ -300,8 +327,8 @@ def test_a_tree_that_is_not_proved_is_built_once(tree: Tree, unproved: Sender) -
 
 def test_where_programs_end_on_a_start_others_of_the_same_build_go_on(tree: Tree, unproved: Sender) -> None:
     texts = [b"+0 listen(3, 1) = 0\n", b"+0 abort() = 0\n", b"+0 listen(3, 1) = 0\n"]
-    with Stop(()) as stop, open_oracles([unproved], stop) as (oracle,):
-        rows = oracle.rows([ConfiguredScript((), it) for it in texts])
+    with Stop(()) as stop, build_trees_and_open_oracles([unproved], stop) as (oracle,):
+        rows = oracle.run_scripts_for_rows([ConfiguredScript((), it) for it in texts])
     assert [str(it) for it in rows] == ["pass 1", "error: the programs ended on it", "pass 1"]
     assert tree.builds() == 1
 
@@ -309,7 +336,7 @@ def test_where_programs_end_on_a_start_others_of_the_same_build_go_on(tree: Tree
 def test_a_tree_that_does_not_compile_is_told_with_its_errors(tree: Tree, unproved: Sender) -> None:
     (tree.top / "crates/pdregress/src/main.rt").touch()
     with Stop(()) as stop, pytest.raises(BuildError, match="unproved: NotCompiled: .*\n.*wrong"):
-        with open_oracles([unproved], stop):
+        with build_trees_and_open_oracles([unproved], stop):
             pass
 
 

@@ -11,7 +11,7 @@ from typing import Any
 
 import pytest
 
-from pdsuite.output.octets import absolute_path_function
+from pdsuite.output.octets import make_absolute_printable_path_function
 from pdsuite.programs.verdict import Row, Verdict
 from pdsuite.reports import report_cache
 from pdsuite.reports.report_cache import LastReport, cache_folder, newest_report_covering
@@ -326,7 +326,7 @@ def test_a_home_that_cannot_be_written_is_told(fake_program: Path, open_folder: 
 def test_who_holds_the_cache_for_long_is_not_waited_for(
     kept: Path, tmp_path: Path, monkeypatch: pytest.MonkeyPatch, capsys: pytest.CaptureFixture[str]
 ) -> None:
-    from pdsuite.reports.last_run import leave_report
+    from pdsuite.reports.last_run import save_report_or_note_failure
 
     monkeypatch.setenv("XDG_CACHE_HOME", str(kept))
     monkeypatch.setattr(report_cache, "_PATIENCE", 0.1)
@@ -334,7 +334,7 @@ def test_who_holds_the_cache_for_long_is_not_waited_for(
     notes: list[str] = []
     with (kept / "pdsuite/lock").open("a") as lock:
         fcntl.flock(lock, fcntl.LOCK_EX)
-        leave_report([tmp_path], [ScriptOutcome("a.pkt", (), Row(Verdict.PASS, 1))], False, notes.append)
+        save_report_or_note_failure([tmp_path], [ScriptOutcome("a.pkt", (), Row(Verdict.PASS, 1))], False, notes.append)
     assert notes == [f"pdsuite: {kept}/pdsuite: another run is writing there: the report isn't kept"]
 
 
@@ -367,9 +367,9 @@ def test_a_file_of_other_paths_is_no_report_of_these(
     monkeypatch.setenv("XDG_CACHE_HOME", str(kept))
     monkeypatch.setattr(report_cache, "_cache_file_name", lambda of: "alike.json")
     one, two = LastReport([tmp_path / "one"]), LastReport([tmp_path / "two"])
-    one.save_run([ScriptOutcome("a.pkt", (), Row(Verdict.PASS, 1))], False)
-    assert (two.load(), one.load() is None) == (None, False)
-    two.save_run([ScriptOutcome("b.pkt", (), Row(Verdict.PASS, 1))], True)
+    one.save_run_keeping_rows_of_unrun([ScriptOutcome("a.pkt", (), Row(Verdict.PASS, 1))], False)
+    assert (two.load_if_kept(), one.load_if_kept() is None) == (None, False)
+    two.save_run_keeping_rows_of_unrun([ScriptOutcome("b.pkt", (), Row(Verdict.PASS, 1))], True)
     (report,) = reports(kept)
     assert (report["of"], len(report["scripts"])) == ([f"{tmp_path}/two"], 1)
 
@@ -379,7 +379,7 @@ def test_only_so_many_reports_are_kept(kept: Path, tmp_path: Path, monkeypatch: 
     monkeypatch.setattr(report_cache, "MOST", 3)
     outcome = ScriptOutcome("a.pkt", (), Row(Verdict.PASS, 1))
     for number in range(6):
-        LastReport([tmp_path / str(number)]).save_run([outcome], False)
+        LastReport([tmp_path / str(number)]).save_run_keeping_rows_of_unrun([outcome], False)
         for age, file in enumerate(sorted((kept / "pdsuite").glob("*.json"), key=lambda it: it.name)):
             os.utime(file, (age, age))
     left = [it["of"] for it in reports(kept)]
@@ -391,7 +391,9 @@ def test_the_last_report_is_one_of_all_these_scripts(
 ) -> None:
     monkeypatch.setenv("XDG_CACHE_HOME", str(kept))
     one, two = tmp_path / "suite/a.pkt", tmp_path / "suite2/a.pkt"
-    LastReport([tmp_path / "suite"]).save_run([ScriptOutcome(str(one), (), Row(Verdict.PASS, 1))], False)
+    LastReport([tmp_path / "suite"]).save_run_keeping_rows_of_unrun(
+        [ScriptOutcome(str(one), (), Row(Verdict.PASS, 1))], False
+    )
     found = newest_report_covering([str(one)])
     assert found is not None and list(found.rows) == [str(one)]
     # Another folder may have a longer name that begins so.
@@ -411,7 +413,7 @@ def test_the_cache_is_where_the_xdg_rules_have_it(monkeypatch: pytest.MonkeyPatc
 
 def test_a_path_is_absolute_as_people_see_it(tmp_path: Path, monkeypatch: pytest.MonkeyPatch) -> None:
     monkeypatch.chdir(tmp_path)
-    absolute = absolute_path_function()
+    absolute = make_absolute_printable_path_function()
     for path in (
         "a.pkt",
         "in/a.pkt",
@@ -425,7 +427,7 @@ def test_a_path_is_absolute_as_people_see_it(tmp_path: Path, monkeypatch: pytest
         assert absolute(path) == os.path.abspath(path)
     assert absolute("a\n\\.pkt") == f"{tmp_path}/a\\x0a\\\\.pkt"
     monkeypatch.chdir("/")
-    assert absolute_path_function()("a.pkt") == "/a.pkt"
+    assert make_absolute_printable_path_function()("a.pkt") == "/a.pkt"
 
 
 def test_a_working_folder_that_went_is_no_fault(fake_program: Path, kept: Path, tmp_path: Path) -> None:

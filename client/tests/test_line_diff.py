@@ -5,12 +5,12 @@ from pathlib import Path
 import pytest
 
 from pdsuite.packetdrill import alignment
-from pdsuite.packetdrill.alignment import Fields, align_packets
+from pdsuite.packetdrill.alignment import Fields, best_sent_place_by_awaited_place
 from pdsuite.packetdrill.columns import Mark
 from pdsuite.programs.recorder import Recording
 from pdsuite.programs.verdict import Row, Verdict
-from pdsuite.reports.diff_text import diff_by_keys, line_diff_lines
-from pdsuite.run.line_diff import LineDiff, line_diff
+from pdsuite.reports.diff_text import line_diff_json_list_or_fault, line_diff_lines
+from pdsuite.run.line_diff import LineDiff, line_diff_or_recording_fault
 from tests.helpers import OPENED, Call, write
 
 STATE = "ESTABLISHED una:1"
@@ -28,7 +28,7 @@ WRITE = "+0 write(4, ..., 1000) = 1000"
 def met(script: str, row: Row, *recorded: tuple[str, str], block_lines: tuple[str, ...] = ()) -> LineDiff:
     """What the lines of a script after the opening were met by, where these were recorded, each at its moment."""
     text = OPENED_RECORDED + "".join(f"{line}\n//= at {at} {STATE}\n" for line, at in recorded)
-    return line_diff(row, block_lines, OPENED.decode() + script, Recording(text), ())
+    return line_diff_or_recording_fault(row, block_lines, OPENED.decode() + script, Recording(text), ())
 
 
 def shown(differences: LineDiff) -> list[str]:
@@ -50,7 +50,7 @@ def test_packets_that_cannot_meet_stand_apart_however_many_there_are(
 ) -> None:
     monkeypatch.setattr(alignment, "_MOST", most)
     each = [Fields(frozenset("."), (number, number + 1), 1, None, None) for number in range(3)]
-    assert align_packets(each, each[:2], lambda one, other: one > 0) == {1: 1}
+    assert best_sent_place_by_awaited_place(each, each[:2], lambda one, other: one > 0) == {1: 1}
 
 
 def test_where_another_came_it_stands_below_and_the_fields_that_differ_are_marked() -> None:
@@ -90,7 +90,7 @@ def test_a_packet_for_which_nothing_was_sent_and_one_that_no_line_asks_for_are_n
         f"   11   {WRITE}",
         f"      + {again} // 1.200000 (asked for by no line)",
     ]
-    assert diff_by_keys(found)[-3:] == [
+    assert line_diff_json_list_or_fault(found)[-3:] == [
         {"line": 10, "differs": True, "event": "+0 > P. 1001:2001(1000) ack 1", "met_by": None},
         {"line": 11, "differs": False, "event": WRITE},
         {"line": None, "differs": True, "met_by": f"{again} // 1.200000"},
@@ -110,7 +110,7 @@ def test_lines_that_a_script_lacks_are_told_and_the_next_ones_are_met_by_their_o
         "    9   +0 > . 2001:3001(1000) ack 1",
         "   10   +0 > P. 3001:4001(1000) ack 1",
     ]
-    keyed = [it["line"] for it in diff_by_keys(found) if isinstance(it, dict)]
+    keyed = [it["line"] for it in line_diff_json_list_or_fault(found) if isinstance(it, dict)]
     assert keyed[-4:] == [None, None, 9, 10]
 
 
@@ -161,9 +161,11 @@ def test_the_last_tolerance_of_a_header_counts() -> None:
 
 
 def test_what_is_not_recorded_says_why() -> None:
-    found = line_diff(Row(Verdict.FAIL, 1, "result"), (), OPENED.decode(), Recording("", "a.pkt:9: it ends"), ())
+    found = line_diff_or_recording_fault(
+        Row(Verdict.FAIL, 1, "result"), (), OPENED.decode(), Recording("", "a.pkt:9: it ends"), ()
+    )
     assert list(line_diff_lines(found)) == ["line by line: not known, since it isn't recorded: a.pkt:9: it ends"]
-    assert diff_by_keys(found) == "a.pkt:9: it ends"
+    assert line_diff_json_list_or_fault(found) == "a.pkt:9: it ends"
 
 
 def test_by_the_programs_a_script_is_shown_to_its_end(recording_programs: Path, tmp_path: Path, call: Call) -> None:

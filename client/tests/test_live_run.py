@@ -10,17 +10,17 @@ from pdsuite.lsp import queries
 from pdsuite.programs import program as programs
 from pdsuite.programs.lookup import stamped_program
 from pdsuite.programs.program import Program as StartedProgram, ProgramEndedError
-from pdsuite.programs.protocol import SETTLE, add_command, script_name
+from pdsuite.programs.protocol import SETTLE, add_command, script_name_of_number
 from pdsuite.programs.verdict import Row, Verdict
 from pdsuite.scripts.settings import Settings
-from pdsuite.scripts.text import make_text
+from pdsuite.scripts.text import make_newline_ended_text_within_limits
 from pdsuite.signals import Stop
 from pdsuite.watch.live_run import LiveRun
 from pdsuite.watch.plan_changes import Act, AddScript, RemoveScript, RunContents, SetKey
 from pdsuite.watch.sender import LiveSender
 from tests.helpers import HANGS
 
-ONE = make_text(b"one\n")
+ONE = make_newline_ended_text_within_limits(b"one\n")
 
 
 class PassingProgram:
@@ -62,7 +62,7 @@ def started(settings: Settings) -> Any:
 def carried_out(run: LiveRun, *acts: Act) -> int:
     """How many acts more a run has after these."""
     before = run.acts
-    run.carry_out_acts(acts, RunContents((), {}))
+    run.carry_out_acts_and_update_results(acts, RunContents((), {}))
     return run.acts - before
 
 
@@ -84,13 +84,13 @@ def test_an_answer_is_found_however_reads_cut_it(octets: int, monkeypatch: pytes
 
 def test_what_is_told_stays_until_its_script_runs_again_or_goes() -> None:
     run = LiveRun((), started)
-    run.carry_out_acts([AddScript("a", ONE), AddScript("b", ONE)], RunContents((), {}))
+    run.carry_out_acts_and_update_results([AddScript("a", ONE), AddScript("b", ONE)], RunContents((), {}))
     first = run.causes["a"]
     assert (list(run.causes), run.steps) == (["a", "b"], {"a": 3, "b": 3})
-    run.carry_out_acts([RemoveScript("b"), AddScript("c", ONE)], RunContents((), {}))
+    run.carry_out_acts_and_update_results([RemoveScript("b"), AddScript("c", ONE)], RunContents((), {}))
     assert run.causes.keys() == {"a", "c"} and run.causes["a"] is first
     assert run.steps == {"c": 3}
-    run.carry_out_acts([SetKey("mss", "100")], RunContents((), {}))
+    run.carry_out_acts_and_update_results([SetKey("mss", "100")], RunContents((), {}))
     assert run.causes["a"] is not first and run.steps == {"a": 3, "c": 3}
 
 
@@ -102,7 +102,7 @@ def test_a_program_that_says_what_nobody_asked_is_at_an_end() -> None:
         assert program.query(b"settle\n", 1_000) == f"{total}\n".encode()
         with pytest.raises(ProgramEndedError, match="sh answered more than was asked"):
             while select.select([program.fileno()], [], [], HANGS)[0]:
-                program.require_idle()
+                program.require_alive_and_silent()
 
 
 def test_a_text_is_asked_with_the_octets_that_an_editor_has(monkeypatch: pytest.MonkeyPatch) -> None:
@@ -111,9 +111,11 @@ def test_a_text_is_asked_with_the_octets_that_an_editor_has(monkeypatch: pytest.
     monkeypatch.setattr(queries, "Program", lambda words, stop: program)
     sender = LiveSender(stamped_program(Path(__file__)), None)
     with Stop() as stop:
-        found = queries.ProgramQueries(sender, stop, lambda line: None).rows_of_texts(
+        found = queries.ProgramQueries(sender, stop, lambda line: None).run_texts_for_rows(
             ["a\ud800", "\n" * 5_000, "b"], ()
         )
     assert found == [Row(Verdict.PASS, 1), None, Row(Verdict.PASS, 1)]
-    texts = make_text(b"a\xed\xa0\x80\n"), make_text(b"b\n")
-    assert program.queries == [add_command(script_name(0), texts[0]) + add_command(script_name(2), texts[1]) + SETTLE]
+    texts = make_newline_ended_text_within_limits(b"a\xed\xa0\x80\n"), make_newline_ended_text_within_limits(b"b\n")
+    assert program.queries == [
+        add_command(script_name_of_number(0), texts[0]) + add_command(script_name_of_number(2), texts[1]) + SETTLE
+    ]

@@ -1,8 +1,13 @@
 """What the language server makes of comments, and what it says of settings, calls and flags by the documents."""
 
 from pdsuite.lsp import doc_lookup
-from pdsuite.lsp.comments import comment_blocks_of, comment_foldings_of, section_symbols_of
-from pdsuite.lsp.completion import completion_items, proposals_for_expected, setting_key_proposals, typed_word_start
+from pdsuite.lsp.comments import whole_line_comment_blocks_of, comment_foldings_of, section_symbols_of
+from pdsuite.lsp.completion import (
+    completion_items,
+    proposals_for_expected,
+    proposals_for_every_setting_key,
+    typed_word_start,
+)
 from pdsuite.lsp.positions import DocumentLines
 from pdsuite.lsp.toml_positions import diagnostic_of_fault, key_at_line
 from pdsuite.scripts.defaults import KEYS
@@ -23,7 +28,11 @@ SCRIPT = """// Sets up,
 
 
 def test_blocks_are_comments_of_lines_of_their_own() -> None:
-    assert [(it.first, it.last) for it in comment_blocks_of(DocumentLines(SCRIPT))] == [(0, 1), (4, 5), (10, 11)]
+    assert [(it.first, it.last) for it in whole_line_comment_blocks_of(DocumentLines(SCRIPT))] == [
+        (0, 1),
+        (4, 5),
+        (10, 11),
+    ]
 
 
 def test_a_section_goes_to_the_next_one() -> None:
@@ -43,8 +52,8 @@ def test_only_several_lines_are_folded() -> None:
 
 
 def test_comments_stand_up_to_where_no_token_begins() -> None:
-    assert [(it.first, it.last) for it in comment_blocks_of(DocumentLines("// a\n\x01\n// b\n"))] == [(0, 0)]
-    assert comment_blocks_of(DocumentLines("/* never closed\n// x\n")) == []
+    assert [(it.first, it.last) for it in whole_line_comment_blocks_of(DocumentLines("// a\n\x01\n// b\n"))] == [(0, 0)]
+    assert whole_line_comment_blocks_of(DocumentLines("/* never closed\n// x\n")) == []
 
 
 def test_the_documents_have_each_key_call_and_field() -> None:
@@ -53,9 +62,14 @@ def test_the_documents_have_each_key_call_and_field() -> None:
     for call in ("socket", "bind", "listen", "accept", "setsockopt", "fcntl", "write", "close"):
         assert doc_lookup.doc_of_call(call).startswith(f"`{call}(")
     assert doc_lookup.doc_of_call("setsockopt").count("`setsockopt(") == 2
-    assert all(doc_lookup.doc_of_field(it) for it in ("flags", "seq", "ack", "win", "options", "header"))
+    assert all(
+        doc_lookup.doc_of_packet_or_header_field(it) for it in ("flags", "seq", "ack", "win", "options", "header")
+    )
     assert (
-        doc_lookup.doc_of_call("connect") == doc_lookup.doc_of_field("time") == doc_lookup.doc_of_setting("root") == ""
+        doc_lookup.doc_of_call("connect")
+        == doc_lookup.doc_of_packet_or_header_field("time")
+        == doc_lookup.doc_of_setting("root")
+        == ""
     )
 
 
@@ -97,7 +111,7 @@ def test_snippets_are_plain_where_the_client_has_none() -> None:
 
 
 def test_keys_are_proposed_with_their_defaults() -> None:
-    assert [it.put for it in setting_key_proposals()][0] == "mss = ${1:1460}"
+    assert [it.put for it in proposals_for_every_setting_key()][0] == "mss = ${1:1460}"
 
 
 def test_the_place_of_a_fault_of_settings() -> None:

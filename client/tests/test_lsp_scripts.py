@@ -4,9 +4,9 @@ from typing import Any
 
 import pytest
 
-from pdsuite.lsp.actions import CodeAction, FailingScript, edits_to_text, leads_past_failing_line
+from pdsuite.lsp.actions import CodeAction, FailingScript, minimal_whole_line_edits_to_text, leads_past_failing_line
 from pdsuite.lsp.actions import (
-    actual_taking_actions,
+    actions_taking_actual_packet_or_result,
     commenting_out_actions,
     record_all_actions,
     record_from_here_actions,
@@ -18,14 +18,14 @@ from pdsuite.lsp.packets_sent import event_lines_for_packets, parse_sent_packet,
 from pdsuite.lsp.positions import DocumentLines
 from pdsuite.packetdrill.layout import layout_of
 from pdsuite.packetdrill.recorded import (
-    last_input_before,
+    last_input_before_moment,
     match_events,
     recorded_events_in,
     strip_trace,
-    tolerance_of_script,
+    tolerance_from_header_or_settings,
 )
 from pdsuite.programs.verdict import Row, Verdict
-from pdsuite.run.locate_row import character_at_shown_column
+from pdsuite.run.locate_row import character_index_at_shown_column
 from pdsuite.run.outcomes import ScriptOutcome
 from pdsuite.scripts.expectation import Expectation
 
@@ -84,7 +84,7 @@ def test_times_of_packets_count_from_one_another() -> None:
 )
 def test_only_written_fields_are_taken(event: str, after: str) -> None:
     text = f"// x\n{event} // y\n"
-    (action, *_) = actual_taking_actions(
+    (action, *_) = actions_taking_actual_packet_or_result(
         failing(text, Row(Verdict.FAIL, 2, "seq"), script_packet=event, actual_packet=SENT)
     )
     assert action.text == f"// x\n{after} // y\n"
@@ -93,7 +93,7 @@ def test_only_written_fields_are_taken(event: str, after: str) -> None:
 def test_options_that_are_lacking_are_added() -> None:
     sent = "+0 > S. 0:0(0) ack 1 win 9 <mss 1460> // 0.100000"
     event = "+0 > S. 0:0(0) ack 1"
-    (action, _) = actual_taking_actions(
+    (action, _) = actions_taking_actual_packet_or_result(
         failing(f"{event}\n", Row(Verdict.FAIL, 1, "options"), script_packet=event, actual_packet=sent)
     )
     assert action.text == "+0 > S. 0:0(0) ack 1 <mss 1460>\n"
@@ -105,7 +105,9 @@ def test_the_time_alone_is_offered_where_nothing_else_differs() -> None:
         ("+0.1 > P. 1:1001(1000) ack 1", "Take the time at which it was sent", "+0 > P. 1:1001(1000) ack 1\n"),
         ("+0.1 > P. 1:501(500) ack 1", "Take the packet that was sent", "+0 > P. 1:1001(1000) ack 1\n"),
     ]:
-        (action, _) = actual_taking_actions(failing(f"{event}\n", row, script_packet=event, actual_packet=SENT))
+        (action, _) = actions_taking_actual_packet_or_result(
+            failing(f"{event}\n", row, script_packet=event, actual_packet=SENT)
+        )
         assert (action.title, action.text) == (title, after)
 
 
@@ -115,26 +117,30 @@ def test_packets_before_the_awaited_one_are_inserted() -> None:
     actual = "* > . 2001:3001(1000) ack 1 win 5 // 0.200000"
     text = f"0 a() = 1\r\n  {event}\r\n"
     cause_fields = {"script_packet": event, "actual_packet": actual, "untaken_packets": unmatched}
-    first, _ = actual_taking_actions(failing(text, Row(Verdict.FAIL, 2, "time"), unasked_packets=2, **cause_fields))
+    first, _ = actions_taking_actual_packet_or_result(
+        failing(text, Row(Verdict.FAIL, 2, "time"), unasked_packets=2, **cause_fields)
+    )
     assert (first.title, first.shift) == ("Insert 2 packets that were sent before it", 2)
     assert first.text.split("\r\n")[1:3] == [
         "  * > . 2001:3001(1000) ack 1 win 5",
         "  * > P. 3001:4001(1000) ack 1 win 5",
     ]
-    _, last = actual_taking_actions(failing(text, Row(Verdict.FAIL, 2, "time"), **cause_fields))
+    _, last = actions_taking_actual_packet_or_result(failing(text, Row(Verdict.FAIL, 2, "time"), **cause_fields))
     assert (last.title, last.shift) == ("Insert 3 packets that were sent before it", 3)
 
 
 def test_before_an_event_that_follows_another_in_its_line_packets_are_inserted_without_an_indent() -> None:
     event = "+0 > P. 1001:2001(1000) ack 1"
     cause_fields = {"script_packet": event, "actual_packet": SENT, "untaken_packets": [], "unasked_packets": 1}
-    first, _ = actual_taking_actions(failing(f"  0 a() = 1 {event}\n", Row(Verdict.FAIL, 1, "seq"), **cause_fields))
+    first, _ = actions_taking_actual_packet_or_result(
+        failing(f"  0 a() = 1 {event}\n", Row(Verdict.FAIL, 1, "seq"), **cause_fields)
+    )
     assert first.text == f"  0 a() = 1 +0 > P. 1:1001(1000) ack 1 win 511\n{event}\n"
 
 
 def test_a_result_is_taken() -> None:
     text = "0 a() = 1 (note)\n"
-    (action,) = actual_taking_actions(
+    (action,) = actions_taking_actual_packet_or_result(
         failing(text, Row(Verdict.FAIL, 1, "result"), call=text[:-1], actual_result="-1 EINVAL")
     )
     assert action.text == "0 a() = -1 EINVAL (note)\n"
@@ -167,7 +173,7 @@ def test_an_action_leads_past_its_line() -> None:
 
 def test_a_recording_beside_its_script() -> None:
     recorded = recorded_events_in(RECORDING)
-    events = layout_of(SCRIPT).events
+    events = layout_of(SCRIPT).packets_and_calls
     met = list(match_events(events, recorded, 4, 4_000))
     assert [None if it.recorded is None else it.recorded.moment for it in met] == [
         0,
@@ -182,7 +188,7 @@ def test_a_recording_beside_its_script() -> None:
 
 
 def test_what_is_unmet_is_told_by_the_time_alone() -> None:
-    events = layout_of(SCRIPT.replace("+0.1 > P. 1:2(1)", "* > P. 1:2(1)")).events
+    events = layout_of(SCRIPT.replace("+0.1 > P. 1:2(1)", "* > P. 1:2(1)")).packets_and_calls
     met = list(match_events(events, recorded_events_in(RECORDING), 4, 0))
     assert met[4].recorded is None  # nothing left before the next input
     late = "0 a() = 1\n+0.1~+0.3 > . 1:2(1)\n+1 b() = 1\n"
@@ -191,20 +197,20 @@ def test_what_is_unmet_is_told_by_the_time_alone() -> None:
         *(trace.format(it) for it in ("0.000000", "0.304000", "1.000000"))
     )
     for tolerance, is_met in [(4_000, True), (3_999, False)]:
-        found = list(match_events(layout_of(late).events, recorded_events_in(recording), 1, tolerance))
+        found = list(match_events(layout_of(late).packets_and_calls, recorded_events_in(recording), 1, tolerance))
         assert (found[1].recorded is not None) == is_met
 
 
 def test_the_tolerance_is_the_last_of_the_header() -> None:
-    assert tolerance_of_script(layout_of("--tolerance_usecs=5\n--tolerance_usecs=7\n").items, 9) == 7
-    assert tolerance_of_script(layout_of("--other=5\n0 a() = 1").items, 9) == 9
+    assert tolerance_from_header_or_settings(layout_of("--tolerance_usecs=5\n--tolerance_usecs=7\n").items, 9) == 7
+    assert tolerance_from_header_or_settings(layout_of("--other=5\n0 a() = 1").items, 9) == 9
 
 
 def test_an_untaken_packet_left_after_the_input_that_sent_it_or_the_last_one_before_the_timer_did() -> None:
     layout = layout_of(SCRIPT)
     sent = [{"line": 3}, {"timer_us": 150_000}, {"timer_us": 200_000}, {"timer_us": 200_001}, {"timer_us": 0}, None]
     cause = {"untaken_packets": [*"abcdef"], "untaken_sent_by": sent}
-    found = with_unmatched_packets(Diagnostic(layout.events[0].extent, 1, "", ""), layout, cause).related
+    found = with_unmatched_packets(Diagnostic(layout.packets_and_calls[0].extent, 1, "", ""), layout, cause).related
     lines = DocumentLines(SCRIPT)
     places = [(lines.line_of(it.extent.start) + 1, it.message) for it in found]
     assert places == [
@@ -213,13 +219,13 @@ def test_an_untaken_packet_left_after_the_input_that_sent_it_or_the_last_one_bef
         (3, "untaken packet: c"),
         (6, "untaken packet: d"),
     ]
-    assert last_input_before(layout.events, 1) is layout.events[0]
+    assert last_input_before_moment(layout.packets_and_calls, 1) is layout.packets_and_calls[0]
 
 
 def test_hover_says_what_the_timer_sent() -> None:
     expiry = "+1 > . 1:1001(1000) ack 1\n"
     trace = "//= at 1.000000 ESTABLISHED una:1 prr_delivered:0 prr_out:1000 recovery:RFC6675 sent_by:timer\n"
-    events, recorded = layout_of(expiry).events, recorded_events_in(expiry + trace)
+    events, recorded = layout_of(expiry).packets_and_calls, recorded_events_in(expiry + trace)
     met = list(match_events(events, recorded, 1, 4_000))
     words = hover_of_event(events[0], 0, met, expiry + trace)
     assert "`> . 1:1001(1000) ack 1` was sent at 1.000000, by the timer\n" in words
@@ -228,7 +234,7 @@ def test_hover_says_what_the_timer_sent() -> None:
 
 def test_hover_has_what_changed() -> None:
     recorded = recorded_events_in(RECORDING)
-    events = layout_of(SCRIPT).events
+    events = layout_of(SCRIPT).packets_and_calls
     met = list(match_events(events, recorded, 4, 4_000))
     words = hover_of_event(events[2], events[2].item.start, met, RECORDING)
     assert "After it at 0.100000: ESTABLISHED\n```text\nuna   1001  was 1\nnext  1501  was 1001\n" in words
@@ -290,14 +296,14 @@ def test_nothing_is_recorded_from_the_first_event_on() -> None:
     ],
 )
 def test_an_edit_makes_the_other_text(old: str, new: str) -> None:
-    (edit,) = edits_to_text(DocumentLines(old), new)
+    (edit,) = minimal_whole_line_edits_to_text(DocumentLines(old), new)
     assert Document("", 1, old).with_changes(2, [{"range": edit["range"], "text": edit["newText"]}]).text == new
     assert edit["range"]["start"]["character"] == 0
 
 
 def test_a_shown_column_is_a_character() -> None:
-    assert character_at_shown_column("\udcff\ud800x", 16) == 2
-    assert [character_at_shown_column("\tab\u00e4c", it) for it in (0, 4, 5, 6, 14, 99)] == [0, 1, 2, 3, 4, 5]
+    assert character_index_at_shown_column("\udcff\ud800x", 16) == 2
+    assert [character_index_at_shown_column("\tab\u00e4c", it) for it in (0, 4, 5, 6, 14, 99)] == [0, 1, 2, 3, 4, 5]
 
 
 def test_a_diagnostic_says_what_sent_a_packet_and_what_was_dropped() -> None:

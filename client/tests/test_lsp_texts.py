@@ -86,11 +86,11 @@ def test_a_change_of_another_shape_is_refused(broken: dict[str, object]) -> None
 
 def test_a_text_counts_as_its_file_would() -> None:
     assert (
-        document_from_item({"uri": "file:///a", "text": "0 a() = 1"}).script_or_reason()
-        == document_from_item({"uri": "", "text": "0 a() = 1\n"}).script_or_reason()
+        document_from_item({"uri": "file:///a", "text": "0 a() = 1"}).script_text_or_reason()
+        == document_from_item({"uri": "", "text": "0 a() = 1\n"}).script_text_or_reason()
     )
-    assert Document("", 1, "\n" * 4_097).script_or_reason() == "more than 4,096 lines"
-    assert Document("", 1, f"// {CRAB * 17_000}").script_or_reason() == "more than 65,536 octets"
+    assert Document("", 1, "\n" * 4_097).script_text_or_reason() == "more than 4,096 lines"
+    assert Document("", 1, f"// {CRAB * 17_000}").script_text_or_reason() == "more than 65,536 octets"
     assert Document("", 1, "// \ud800\n").octets == b"// \xed\xa0\x80\n"
 
 
@@ -129,15 +129,15 @@ def test_the_fields_of_events() -> None:
         {"time": "*", "flags": "-", "seq": "0:0(0)", "options": "<>"},
     ]
     assert layout.fault is not None and layout.fault.place == text.index("bad")
-    assert [it.is_expected for it in layout.events] == [False, False, False, True, True]
+    assert [it.is_expected_outbound_packet for it in layout.packets_and_calls] == [False, False, False, True, True]
 
 
 def test_the_event_of_a_line_is_the_one_that_is_shown() -> None:
     layout = layout_of("0 a() = 1 +0 b(\t2) = 2\n+0 c() = 3\n")
     found = [
-        layout.item_of_line(1, "+0 b(\\x092) = 2"),
-        layout.item_of_line(1),
-        layout.item_of_line(2),
-        layout.item_of_line(3),
+        layout.find_item_starting_on_line(1, "+0 b(\\x092) = 2"),
+        layout.find_item_starting_on_line(1),
+        layout.find_item_starting_on_line(2),
+        layout.find_item_starting_on_line(3),
     ]
     assert [None if it is None else layout.text[it.item.start] for it in found] == ["+", "0", "+", None]

@@ -9,14 +9,21 @@ from random import Random
 
 import pytest
 
-from pdsuite.commands.measure import MeasureOptions, measure_senders
+from pdsuite.commands.measure import MeasureOptions, measure_transfers_of_two_senders
 from pdsuite.compare.senders import Sender
-from pdsuite.compare.sides import Side, make_side
+from pdsuite.compare.sides import Side, make_side_named_with_settings
 from pdsuite.measure.measurement import MeasureResult, MeasuredCase, Measurement, Pair, TransferCase, cases_of_paths
-from pdsuite.measure.measurement import settings_for_path
-from pdsuite.measure.paths import NetworkPath, load_paths
-from pdsuite.measure.report import MeasureReport, cells_of_row, plain_report
-from pdsuite.measure.statistics import FIGURES, ChangeVerdict, FigureRow, FigureTable, _shown_by_holm, figure_tables_of
+from pdsuite.measure.measurement import side_settings_with_path_mss
+from pdsuite.measure.paths import NetworkPath, load_network_paths_matching
+from pdsuite.measure.report import MeasureReport, row_cells_without_verdict, plain_report
+from pdsuite.measure.statistics import (
+    FIGURES,
+    ChangeVerdict,
+    FigureRow,
+    FigureTable,
+    _shown_by_holm,
+    figure_tables_with_holm_verdicts,
+)
 from pdsuite.measure.transfer import TransferResult
 from pdsuite.output.screen import Screen
 from pdsuite.signals import Stop
@@ -47,7 +54,7 @@ def delivery(time: float, again: int = 0) -> TransferResult:
 
 
 def table(before: Sequence[float], after: Sequence[float], path: NetworkPath = PATH) -> FigureTable:
-    (found,) = figure_tables_of([measured(before, after, path)])
+    (found,) = figure_tables_with_holm_verdicts([measured(before, after, path)])
     return found
 
 
@@ -91,7 +98,12 @@ def test_equal_senders_are_the_same_and_chance_alone_shows_nothing() -> None:
     equal = [draw.gauss(100_000, 20_000) for _ in range(50)]
     assert {it.verdict for it in table(equal, equal).rows} == {ChangeVerdict.SAME}
     cases = [measured(equal, draw.sample(equal, len(equal))) for _ in range(8)]
-    found = [it.verdict for one in figure_tables_of(cases) for it in one.rows if it.figure.key == "time_median"]
+    found = [
+        it.verdict
+        for one in figure_tables_with_holm_verdicts(cases)
+        for it in one.rows
+        if it.figure.key == "time_median"
+    ]
     assert found.count(ChangeVerdict.UNSHOWN) >= 7
 
 
@@ -128,13 +140,18 @@ def test_a_report_has_a_title_each_figure_and_totals() -> None:
 
 def test_times_of_some_microseconds_are_told_in_microseconds() -> None:
     queue = next(it for it in FIGURES if it.key == "queue")
-    assert cells_of_row(FigureRow(queue, 0.5, 1.75, 1, 1.5, 0.01))[1:] == (
+    assert row_cells_without_verdict(FigureRow(queue, 0.5, 1.75, 1, 1.5, 0.01))[1:] == (
         "0.500 us",
         "1.750 us",
         "+1.250 us",
         "(+1.000 us to +1.500 us)",
     )
-    assert cells_of_row(FigureRow(queue, 200, 201.25, 1, 1.5, None))[1:] == ("0.200 ms", "0.201 ms", "+0.001 ms", "")
+    assert row_cells_without_verdict(FigureRow(queue, 200, 201.25, 1, 1.5, None))[1:] == (
+        "0.200 ms",
+        "0.201 ms",
+        "+0.001 ms",
+        "",
+    )
 
 
 def test_a_narrow_terminal_has_the_numbers_of_a_figure_below_it() -> None:
@@ -158,7 +175,7 @@ def test_a_narrow_terminal_has_the_numbers_of_a_figure_below_it() -> None:
 
 def side_of_programs(folder: Path) -> Side:
     programs = {it: folder / it for it in ("pdregress", "pdrecord")}
-    return make_side(Sender("a sender", programs, None), "", "--base-settings")
+    return make_side_named_with_settings(Sender("a sender", programs, None), "", "--base-settings")
 
 
 def test_a_signal_leaves_what_both_sides_have_played(programs: Path) -> None:
@@ -169,7 +186,7 @@ def test_a_signal_leaves_what_both_sides_have_played(programs: Path) -> None:
         def advance(done: int, count: int) -> None:
             assert count == 800
             if done >= 64:
-                stop._note_first_signal(signal.SIGINT, None)
+                stop._note_signal_and_restore_defaults(signal.SIGINT, None)
 
         found = measuring.run(stop, advance)
     (case,) = found.cases
@@ -179,10 +196,10 @@ def test_a_signal_leaves_what_both_sides_have_played(programs: Path) -> None:
 
 def test_segments_are_as_large_as_those_of_a_path_unless_the_mss_is_set() -> None:
     sender, large = Sender("a sender", None), replace(PATH, mss=8_960)
-    side, own = (make_side(sender, it, "--base-settings") for it in ("", "mss = 500"))
-    assert settings_for_path(side, (), large) == (("mss", 8_960),)
-    assert settings_for_path(side, (("mss", 1_000),), large) == (("mss", 1_000),)
-    assert settings_for_path(own, (("mss", 1_000),), large) == (("mss", 500),)
+    side, own = (make_side_named_with_settings(sender, it, "--base-settings") for it in ("", "mss = 500"))
+    assert side_settings_with_path_mss(side, (), large) == (("mss", 8_960),)
+    assert side_settings_with_path_mss(side, (("mss", 1_000),), large) == (("mss", 1_000),)
+    assert side_settings_with_path_mss(own, (("mss", 1_000),), large) == (("mss", 500),)
 
 
 def test_a_transfer_that_comes_to_no_end_is_told_and_counts_on_neither_side(programs: Path) -> None:
@@ -193,7 +210,9 @@ def test_a_transfer_that_comes_to_no_end_is_told_and_counts_on_neither_side(prog
         found = measuring.run(stop, lambda done, count: None)
     broken, whole = found.cases
     assert broken.pairs == () and len(broken.unfinished) == 2 and len(whole.pairs) == 1
-    report = plain_report(MeasureReport(figure_tables_of(found.cases), ("one", "other"), 1, 2, 0.0, False)).plain
+    report = plain_report(
+        MeasureReport(figure_tables_with_holm_verdicts(found.cases), ("one", "other"), 1, 2, 0.0, False)
+    ).plain
     assert "not played: run 0, before: its packets don't fit into a script" in report and ", and 1 more" in report
 
 
@@ -257,7 +276,7 @@ def test_what_was_played_until_a_signal_is_kept_too(
     recording_programs: Path, tmp_path: Path, monkeypatch: pytest.MonkeyPatch
 ) -> None:
     def cut(measuring: Measurement, stop: Stop, advance: Callable[[int, int], None]) -> MeasureResult:
-        stop._note_first_signal(signal.SIGINT, None)
+        stop._note_signal_and_restore_defaults(signal.SIGINT, None)
         with Stop(()) as unheeded:
             return replace(run(measuring, unheeded, advance), status=130)
 
@@ -268,7 +287,7 @@ def test_what_was_played_until_a_signal_is_kept_too(
     places = {"paths": tmp_path / "paths.toml", "html": tmp_path / "page", "save": tmp_path / "kept"}
     options = MeasureOptions("", "", "", folder, folder, only=["lossy"], runs=2, seed=1, is_json=False, **places)
     with Screen(False, False) as screen:
-        assert measure_senders(options, screen) == 130
+        assert measure_transfers_of_two_senders(options, screen) == 130
     assert "until a signal came" in (tmp_path / "page/index.html").read_text()
     assert len(list((tmp_path / "kept").rglob("*.pkt"))) == 4
 
@@ -278,7 +297,10 @@ def test_a_setting_or_a_path_that_is_refused_ends_it_first(call: Call, programs:
     refused = call(programs, *words, "--base-settings", "mss = 1")
     assert refused.status == 2 and "--base-settings: mss: BadValue" in refused.err
     unknown = call(programs, *words, "--only", "moon")
-    assert unknown.status == 2 and f"there are {', '.join(it.name for it in load_paths(None))}" in unknown.err
+    assert (
+        unknown.status == 2
+        and f"there are {', '.join(it.name for it in load_network_paths_matching(None))}" in unknown.err
+    )
     (tmp_path / "paths.toml").write_text(PATHS.replace("[29_200]", "[14_600_000]"))
     large = call(programs, *words, "--paths", "paths.toml")
     assert large.status == 2 and "a script holds 900 segments" in large.err

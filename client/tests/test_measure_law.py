@@ -13,7 +13,7 @@ import pytest
 
 from pdsuite.measure.link import LossModel
 from pdsuite.measure.paths import NetworkPath
-from pdsuite.measure.transfer import TransferResult, play_transfer
+from pdsuite.measure.transfer import TransferResult, play_transfer_as_generator
 from pdsuite.measure.transfer_batch import play_transfers
 from pdsuite.signals import Stop
 
@@ -50,7 +50,10 @@ def test_goodput_follows_the_square_root_law(programs: Path, share: float) -> No
         seeds = [f"{share} {number}" for number in range(begin, min(begin + PIECE, transfers))]
         with Stop(()) as stop:
             found = play_transfers(
-                [play_transfer(path, SIZE, it, 1_048_576) for it in seeds], programs / "pdregress", settings, stop
+                [play_transfer_as_generator(path, SIZE, it, 1_048_576) for it in seeds],
+                programs / "pdregress",
+                settings,
+                stop,
             )
         for seed, it in zip(seeds, found):
             assert isinstance(it, TransferResult), it

@@ -11,7 +11,14 @@ import pytest
 
 from pdsuite.faults import Fault
 from pdsuite.measure.link import CarriedPacket, Link, LossModel, PacketFate
-from pdsuite.measure.paths import FILE, HEADER, MOST_SEGMENTS, NetworkPath, load_paths, parse_paths
+from pdsuite.measure.paths import (
+    FILE,
+    HEADER,
+    MOST_SEGMENTS,
+    NetworkPath,
+    load_network_paths_matching,
+    parse_network_paths_toml,
+)
 from pdsuite.measure.receiver import Ack, OctetRange, Receiver
 
 PLAIN = NetworkPath("plain", "a test", rate=8_000_000, delay_us=10_000, queue=10_000, sizes=(14_600,))
@@ -22,16 +29,16 @@ TABLE = "[a]\nsource = 'a test'\nrate = 1_000_000\ndelay_us = 10\nqueue = 1\nsiz
 
 
 def test_the_paths_that_come_along_have_their_sources_and_cover_what_is_met() -> None:
-    paths = load_paths(None)
+    paths = load_network_paths_matching(None)
     assert [it.name for it in paths] == ["lan", "dsl", "mobile", "long_fat", "datacentre", "satellite"]
     assert all(it.source for it in paths)
     assert any(it.burst_us for it in paths) and any(it.reorder for it in paths)
 
 
 def test_paths_are_chosen_by_patterns_of_their_names() -> None:
-    assert [it.name for it in load_paths(None, ["l*", "dsl"])] == ["lan", "dsl", "long_fat"]
+    assert [it.name for it in load_network_paths_matching(None, ["l*", "dsl"])] == ["lan", "dsl", "long_fat"]
     with pytest.raises(Fault, match="no path has such a name; there are lan, dsl"):
-        load_paths(None, ["modem"])
+        load_network_paths_matching(None, ["modem"])
 
 
 @pytest.mark.parametrize(
@@ -50,7 +57,7 @@ def test_paths_are_chosen_by_patterns_of_their_names() -> None:
 )
 def test_a_key_that_is_unknown_or_takes_something_else_is_refused_at_its_line(line: str, reason: str) -> None:
     with pytest.raises(Fault, match=f"^paths.toml:7: {reason}"):
-        list(parse_paths("paths.toml", f"{TABLE}{line}\n".encode()))
+        list(parse_network_paths_toml("paths.toml", f"{TABLE}{line}\n".encode()))
 
 
 @pytest.mark.parametrize(
@@ -66,28 +73,28 @@ def test_a_key_that_is_unknown_or_takes_something_else_is_refused_at_its_line(li
 )
 def test_a_text_that_names_no_path_is_refused(text: str, reason: str) -> None:
     with pytest.raises(Fault) as raised:
-        list(parse_paths("paths.toml", text.encode()))
+        list(parse_network_paths_toml("paths.toml", text.encode()))
     assert str(raised.value).startswith(reason)
 
 
 def test_a_transfer_that_no_script_holds_is_refused_unless_its_segments_are_larger() -> None:
     size = MOST_SEGMENTS * 1_460
     fits = TABLE.replace("[1]", f"[{size}]")
-    assert [it.sizes for it in parse_paths("paths.toml", fits.encode())] == [(size,)]
+    assert [it.sizes for it in parse_network_paths_toml("paths.toml", fits.encode())] == [(size,)]
     larger = fits.replace(str(size), str(size + 1))
     with pytest.raises(Fault, match="a script holds 900 segments, here 1,314,000 octets"):
-        list(parse_paths("paths.toml", larger.encode()))
-    list(parse_paths("paths.toml", f"{larger}mss = 8_960\n".encode()))
+        list(parse_network_paths_toml("paths.toml", larger.encode()))
+    list(parse_network_paths_toml("paths.toml", f"{larger}mss = 8_960\n".encode()))
     with pytest.raises(Fault, match="here 657,000 octets"):
-        list(parse_paths("paths.toml", f"{fits}idle_us = 1\n".encode()))
+        list(parse_network_paths_toml("paths.toml", f"{fits}idle_us = 1\n".encode()))
 
 
 def test_a_file_that_is_not_there_or_has_no_path_is_a_fault(tmp_path: Path) -> None:
     with pytest.raises(Fault, match="No such file"):
-        load_paths(tmp_path / "paths.toml")
+        load_network_paths_matching(tmp_path / "paths.toml")
     (tmp_path / "empty.toml").write_text("")
     with pytest.raises(Fault, match="empty.toml: there is no path in it; each is a table"):
-        load_paths(tmp_path / "empty.toml")
+        load_network_paths_matching(tmp_path / "empty.toml")
     assert FILE.is_file()
 
 
@@ -267,26 +274,26 @@ def test_the_peer_takes_what_the_second_model_takes(seed: int) -> None:
         had_gap = bool(plain.blocks())
         begin = plain.next
         plain.take(span)
-        at_once = receiver.take_segment(span)
+        at_once = receiver.receive_segment_and_check_immediate_ack(span)
         assert at_once or not (had_gap or plain.blocks() or plain.next == begin)
-        blocks = receiver.make_ack().blocks
+        blocks = receiver.make_ack_and_reset_waiting().blocks
         assert receiver.next == plain.next and receiver.taken == plain.taken
         assert set(blocks) <= plain.blocks() and len(blocks) == min(3, len(plain.blocks()))
 
 
 def test_each_second_segment_in_order_is_acknowledged() -> None:
     receiver = Receiver(2, True)
-    assert [receiver.take_segment((at, at + 1)) for at in (1, 2)] == [False, True]
-    assert receiver.make_ack() == Ack(3)
-    assert receiver.take_segment((3, 4)) is False
+    assert [receiver.receive_segment_and_check_immediate_ack((at, at + 1)) for at in (1, 2)] == [False, True]
+    assert receiver.make_ack_and_reset_waiting() == Ack(3)
+    assert receiver.receive_segment_and_check_immediate_ack((3, 4)) is False
 
 
 def test_a_gap_is_told_at_once_with_the_newest_block_first_and_so_is_what_fills_it() -> None:
     receiver = Receiver(2, True)
     found = []
     for span in ((11, 21), (31, 41), (51, 61), (21, 31), (1, 11), (41, 51)):
-        assert receiver.take_segment(span)
-        found.append(receiver.make_ack())
+        assert receiver.receive_segment_and_check_immediate_ack(span)
+        found.append(receiver.make_ack_and_reset_waiting())
     assert found == [
         Ack(1, ((11, 21),)),
         Ack(1, ((31, 41), (11, 21))),
@@ -299,7 +306,11 @@ def test_a_gap_is_told_at_once_with_the_newest_block_first_and_so_is_what_fills_
 
 def test_octets_that_came_before_are_acknowledged_at_once_and_not_taken_twice() -> None:
     receiver = Receiver(2, False)
-    receiver.take_segment((1, 11))
-    receiver.take_segment((11, 21))
-    receiver.make_ack()
-    assert receiver.take_segment((1, 11)) and receiver.make_ack() == Ack(21) and receiver.taken == 20
+    receiver.receive_segment_and_check_immediate_ack((1, 11))
+    receiver.receive_segment_and_check_immediate_ack((11, 21))
+    receiver.make_ack_and_reset_waiting()
+    assert (
+        receiver.receive_segment_and_check_immediate_ack((1, 11))
+        and receiver.make_ack_and_reset_waiting() == Ack(21)
+        and receiver.taken == 20
+    )

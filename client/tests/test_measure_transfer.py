@@ -9,8 +9,8 @@ from random import Random
 import pytest
 
 from pdsuite.measure.link import LossModel
-from pdsuite.measure.paths import HEADER, NetworkPath, load_paths
-from pdsuite.measure.transfer import TransferResult, SegmentDeparture, Transfer, play_transfer
+from pdsuite.measure.paths import HEADER, NetworkPath, load_network_paths_matching
+from pdsuite.measure.transfer import TransferResult, SegmentDeparture, Transfer, play_transfer_as_generator
 from pdsuite.measure.transfer_batch import TransferOutcome, UnfinishedTransferError, play_transfers
 from pdsuite.packetdrill.items import Packet
 from pdsuite.programs.recorder import TRACE, record_texts
@@ -30,7 +30,7 @@ def delivered(
     folder: Path, path: NetworkPath, sizes: Sequence[int], settings: Settings = (), seeds: Sequence[str] = ("",)
 ) -> list[TransferResult]:
     """What comes of transfers of these sizes, by each of these seeds."""
-    games = [play_transfer(path, size, seed, ROOM) for size in sizes for seed in seeds]
+    games = [play_transfer_as_generator(path, size, seed, ROOM) for size in sizes for seed in seeds]
     with Stop(()) as stop:
         return [whole(it) for it in play_transfers(games, folder / "pdregress", settings, stop)]
 
@@ -162,7 +162,7 @@ ODD = [odd_path(Random(seed)) for seed in range(24)]
 
 def check(path: NetworkPath, size: int, it: TransferResult) -> None:
     """The peer has exactly what was written, by segments that left, no faster than the link is."""
-    total = path.octets_written(size)
+    total = path.octets_written_doubled_if_idle(size)
     assert it.octets == total
     assert {octet for one in it.departures for octet in range(one.start, one.end)} == set(range(1, total + 1))
     assert sum(one.end - one.start for one in it.departures) == total + it.octets_again
@@ -179,7 +179,7 @@ def test_each_octet_that_is_written_arrives_once_and_none_faster_than_the_rate(p
 
 
 def test_over_each_path_that_comes_along_so_too(programs: Path) -> None:
-    for path in load_paths(None):
+    for path in load_network_paths_matching(None):
         for found in delivered(programs, path, path.sizes[:1], seeds=["1", "2"]):
             check(path, found.octets, found)
 
@@ -193,7 +193,7 @@ def sent(recording: str) -> list[SegmentDeparture]:
 def test_pdrecord_gives_the_same_packets(recording_programs: Path) -> None:
     found = [delivered(recording_programs, path, [20_000], seeds=["7"])[0] for path in ODD]
     with Stop(()) as stop:
-        scripts = [it.script_octets() for it in found]
+        scripts = [it.inputs_only_script_octets() for it in found]
         recordings = list(record_texts(recording_programs / "pdrecord", scripts, (), stop, (TRACE,)))
     for it, recording in zip(found, recordings):
         assert sent(recording.text) == [replace(one, is_by_timer=False) for one in it.departures], recording.fault
@@ -202,13 +202,13 @@ def test_pdrecord_gives_the_same_packets(recording_programs: Path) -> None:
 class OneMoment(Transfer):
     """The same transfer, plainly: each time the sender is queried after the inputs of one moment."""
 
-    def earliest_arrival_from(self, first: int) -> int:
+    def earliest_arrival_at_peer(self, first: int) -> int:
         return first + 1 - self._path.delay_us
 
 
 def test_it_makes_no_difference_how_many_inputs_are_put_in_at_once(programs: Path) -> None:
     with Stop(()) as stop:
-        games = [OneMoment(path, 12_000, "3", ROOM).play() for path in ODD]
+        games = [OneMoment(path, 12_000, "3", ROOM).play_as_generator() for path in ODD]
         plain = play_transfers(games, programs / "pdregress", (), stop)
     for path, it in zip(ODD, plain):
         assert delivered(programs, path, [12_000], seeds=["3"]) == [it]
@@ -241,7 +241,7 @@ def test_writes_that_are_paced_take_as_long_as_their_pace(programs: Path) -> Non
 
 
 def test_a_program_writes_on_as_the_buffer_has_room(programs: Path) -> None:
-    small = [play_transfer(WIDE, 100_000, "", 16_384)]
+    small = [play_transfer_as_generator(WIDE, 100_000, "", 16_384)]
     with Stop(()) as stop:
         (found,) = map(whole, play_transfers(small, programs / "pdregress", (("sndbuf", 16_384),), stop))
     check(WIDE, 100_000, found)
@@ -255,14 +255,17 @@ def test_a_sender_that_answers_otherwise_is_told(programs: Path) -> None:
     # It thinks of more room than the sender has.
     with Stop(()) as stop:
         (found,) = play_transfers(
-            [play_transfer(WIDE, 100_000, "", ROOM)], programs / "pdregress", (("sndbuf", 4_096),), stop
+            [play_transfer_as_generator(WIDE, 100_000, "", ROOM)], programs / "pdregress", (("sndbuf", 4_096),), stop
         )
     assert isinstance(found, UnfinishedTransferError) and "the call has another result" in str(found)
 
 
 def test_a_transfer_whose_packets_fit_into_no_script_is_told(programs: Path) -> None:
     with Stop(()) as stop:
-        games = [play_transfer(replace(WIDE, mss=64), 64 * 4_000, "", ROOM), play_transfer(WIDE, 1_000, "", ROOM)]
+        games = [
+            play_transfer_as_generator(replace(WIDE, mss=64), 64 * 4_000, "", ROOM),
+            play_transfer_as_generator(WIDE, 1_000, "", ROOM),
+        ]
         long, short = play_transfers(games, programs / "pdregress", (), stop)
     assert isinstance(long, UnfinishedTransferError) and "don't fit into a script" in str(long)
     assert isinstance(short, TransferResult)

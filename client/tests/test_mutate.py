@@ -1,7 +1,7 @@
 """Variations of inputs: where they are varied, and what is put in more often where the change is about it."""
 
 from pdsuite.packetdrill.items import Call, Packet
-from pdsuite.search.inputs import Input, Inputs, make_call, make_inbound_packet
+from pdsuite.search.inputs import Input, Inputs, make_call, make_dataless_inbound_packet
 from pdsuite.search.mutate import CorpusEntry, InputMutator
 from pdsuite.search.scenario import Emphasis, Theme
 from pdsuite.search.states import TracedState
@@ -12,21 +12,23 @@ TRACE = "\n".join(
     f"+0 < . 1:1(0) ack 1 win 257\n//= at 0.{place:06} ESTABLISHED cwnd:4000 una:1 top:4001 end:4001 recovery:none"
     for place in range(20)
 )
-KEPT = CorpusEntry(Inputs((), tuple(Input(place, make_inbound_packet(".", 1, 1, 257)) for place in range(20))), TRACE)
+KEPT = CorpusEntry(
+    Inputs((), tuple(Input(place, make_dataless_inbound_packet(".", 1, 1, 257)) for place in range(20))), TRACE
+)
 
 
 def made(theme: Theme | None) -> list[Packet | Call]:
     """What variations put in that wasn't there."""
     varying = InputMutator(1, Emphasis(themes=frozenset([theme] if theme else [])))
-    variations = [varying.mutate(KEPT) for _ in range(600)]
+    variations = [varying.mutate_inputs_and_maybe_truncate(KEPT) for _ in range(600)]
     return [it.what for one in variations for it in one.begun.events if it.what != KEPT.inputs.events[0].what]
 
 
 def test_half_of_the_variations_are_where_the_sender_recovers() -> None:
     varying = InputMutator(1, Emphasis())
-    places = [varying._draw_place(STATES, 0, 40) for _ in range(400)]
+    places = [varying._draw_place_favouring_recovery(STATES, 0, 40) for _ in range(400)]
     assert 0.4 < places.count(30) / len(places) < 0.6 and len(set(places)) > 30
-    assert max(varying._draw_place(STATES, 0, 20) for _ in range(100)) <= 20
+    assert max(varying._draw_place_favouring_recovery(STATES, 0, 20) for _ in range(100)) <= 20
 
 
 def test_a_theme_has_more_of_what_it_is_about() -> None:

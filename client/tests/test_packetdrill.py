@@ -5,7 +5,7 @@ import random
 import pytest
 
 from pdsuite.packetdrill.items import Call, Code, Command, HeaderOption, Packet, TcpOption, Time
-from pdsuite.packetdrill.reader import read_items
+from pdsuite.packetdrill.reader import parse_items_until_syntax_error
 from pdsuite.packetdrill.tokens import ScriptSyntaxError, TokenKind, tokens_of
 
 TOKENS = [
@@ -47,14 +47,14 @@ TIMES = [
 
 @pytest.mark.parametrize(("text", "time"), TIMES)
 def test_times_are_microseconds(text: str, time: Time) -> None:
-    item = read_items(f"{text} `x`").items[0]
+    item = parse_items_until_syntax_error(f"{text} `x`").items[0]
     assert item.time == time
-    assert read_items(f"{time} `x`").items[0].time == time
+    assert parse_items_until_syntax_error(f"{time} `x`").items[0].time == time
 
 
 def test_a_packet_has_its_numbers_and_options() -> None:
     options = "<mss 1000,sackOK,TS val 1 ecr 2,\nnop, wscale 7,sack 1:2 3:4,eol>"
-    packet = read_items(f"+0 < SP. 0:10(10) ack 5 win 6 {options}").items[0].what
+    packet = parse_items_until_syntax_error(f"+0 < SP. 0:10(10) ack 5 win 6 {options}").items[0].what
     numbers = {"mss": (1000,), "sackOK": (), "TS": (1, 2), "nop": (), "wscale": (7,), "sack": (1, 2, 3, 4), "eol": ()}
     values = tuple(TcpOption(name, given_numbers) for name, given_numbers in numbers.items())
     flat = options.replace("\n", " ")
@@ -65,12 +65,12 @@ def test_a_packet_has_its_numbers_and_options() -> None:
 @pytest.mark.parametrize("options", ["", "<>", "<...>"])
 def test_a_packet_that_leaves_may_have_any_options(options: str) -> None:
     text = f"> - 1:1(0) {options}".strip()
-    assert str(read_items(f"* {text}").items[0].what) == text
+    assert str(parse_items_until_syntax_error(f"* {text}").items[0].what) == text
 
 
 def test_a_call_has_its_arguments_and_its_result() -> None:
     text = "0...0.2 f(3, {a = [(1), 2], b=...}, [1], /* c */ O_A|O_B ) = -1 EAGAIN (Try (again))\n+0 g() = 0x10 (g)"
-    first, second = read_items(text).items
+    first, second = parse_items_until_syntax_error(text).items
     assert first.is_blocking
     assert first.what == Call("f", ("3", "{a = [(1), 2], b=...}", "[1]", "O_A|O_B"), -1, "EAGAIN")
     assert second.what == Call("g", (), 16)
@@ -78,7 +78,7 @@ def test_a_call_has_its_arguments_and_its_result() -> None:
 
 def test_options_commands_and_code_may_stand_anywhere() -> None:
     text = "--a=b\n`c`\n0 f() = 0\n%{ d }%\n+0 `e`\n--f"
-    items = read_items(text).items
+    items = parse_items_until_syntax_error(text).items
     assert [it.what for it in items] == [
         HeaderOption("a", "b"),
         Command("c"),
@@ -113,7 +113,7 @@ UNREAD = [
 
 @pytest.mark.parametrize(("text", "line", "words"), UNREAD, ids=range(len(UNREAD)))
 def test_reading_ends_where_no_script_goes_on(text: str, line: int, words: str) -> None:
-    fault = read_items(text).fault
+    fault = parse_items_until_syntax_error(text).fault
     assert fault is not None
     assert (text.count("\n", 0, fault.place) + 1, fault.words) == (line, words)
 
@@ -124,7 +124,7 @@ def test_reading_ends_by_itself_on_random_octets() -> None:
     faults = 0
     for size in range(300):
         text = dice.randbytes(size).decode("utf-8", "surrogateescape")
-        reading = read_items(text)
+        reading = parse_items_until_syntax_error(text)
         ends = [0, *(it.end for it in reading.items)]
         assert all(end <= it.start < it.end for end, it in zip(ends, reading.items))
         assert reading.fault is not None or not text.strip(), text
@@ -148,11 +148,11 @@ PIECES = (
 
 def test_each_prefix_has_the_items_that_end_in_it() -> None:
     whole, wanted = "".join(text for text, _ in PIECES), [what for _, what in PIECES]
-    ends = [it.end for it in read_items(whole).items]
+    ends = [it.end for it in parse_items_until_syntax_error(whole).items]
     for number, end in enumerate(ends, 1):
-        reading = read_items(whole[:end])
+        reading = parse_items_until_syntax_error(whole[:end])
         assert ([it.what for it in reading.items], reading.fault) == (wanted[:number], None)
     for size in range(1, len(whole)):
-        items = read_items(whole[:size]).items
+        items = parse_items_until_syntax_error(whole[:size]).items
         assert [it.what for it in items[:-1]] == wanted[: len(items[:-1])]
         assert len(items) >= sum(end <= size for end in ends)

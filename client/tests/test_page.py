@@ -6,18 +6,18 @@ from pathlib import Path
 
 import pytest
 
-from pdsuite.packetdrill.columns import Mark, PacketColumns, PacketField, columns_of_packets
+from pdsuite.packetdrill.columns import Mark, PacketColumns, PacketField, marked_field_columns_of_both_packets
 from pdsuite.page.diagram_choice import DiagramChoice
-from pdsuite.page.diagrams import undrawn_diagram
-from pdsuite.page.links import FOLDER, is_page_file, page_file_of
+from pdsuite.page.diagrams import undrawn_diagram_with_reason
+from pdsuite.page.links import FOLDER, is_script_page_file, page_file_name_of
 from pdsuite.page.page_updates import PageUpdates
 from pdsuite.page.render import render_script_page
 from pdsuite.page.view_model import NamedFact, PageEntry, RefusedText, ScriptView, script_view_of, table_row_of
-from pdsuite.programs.protocol import Cause, UnexpectedAnswerError, parse_causes
+from pdsuite.programs.protocol import Cause, UnexpectedAnswerError, parse_causes_by_script_and_line
 from pdsuite.programs.verdict import Row, Verdict
 from pdsuite.run.line_diff import DiffLine, LineDiff
 from pdsuite.run.outcomes import ScriptOutcome
-from pdsuite.scripts.text import make_text
+from pdsuite.scripts.text import make_newline_ended_text_within_limits
 from pdsuite.signals import Stop
 from tests.helpers import FAILS, PASSES, Call, write
 from tests.watch_process import Watching
@@ -74,15 +74,17 @@ def line(packet: PacketColumns) -> str:
 def test_packets_stand_in_columns_and_what_differs_is_marked(
     kind: str, script: str, actual: str, one: str, other: str
 ) -> None:
-    assert tuple(map(line, columns_of_packets(script, actual, kind))) == (one, other)
+    assert tuple(map(line, marked_field_columns_of_both_packets(script, actual, kind))) == (one, other)
 
 
 def sheet(verdict: Verdict, text: bytes, cause: Cause, number: int = 1, word: str = "") -> ScriptView:
     """The page of a script."""
     row = Row(verdict, number, word)
-    named = make_text(text).line(number) if row.line else None
+    named = make_newline_ended_text_within_limits(text).find_line_by_number(number) if row.line else None
     return script_view_of(
-        PageEntry(ScriptOutcome("a.pkt", (), row, named), make_text(text)), cause, undrawn_diagram(row)
+        PageEntry(ScriptOutcome("a.pkt", (), row, named), make_newline_ended_text_within_limits(text)),
+        cause,
+        undrawn_diagram_with_reason(row),
     )
 
 
@@ -147,7 +149,7 @@ def test_where_nothing_is_told_the_line_stands() -> None:
 
 def test_what_each_line_was_met_by_stands_on_the_page_of_a_script_that_fails() -> None:
     row = Row(Verdict.FAIL, 2, "seq")
-    wanted, came = columns_of_packets("+0 > P. 1:2(1)", "+0 > P. 1:3(2) win 5 // 0.100000", "")
+    wanted, came = marked_field_columns_of_both_packets("+0 > P. 1:2(1)", "+0 > P. 1:3(2) win 5 // 0.100000", "")
     met = LineDiff(
         (
             DiffLine(1, (PacketField("0 close(3) = 0"),)),
@@ -156,7 +158,7 @@ def test_what_each_line_was_met_by_stands_on_the_page_of_a_script_that_fails() -
             DiffLine(None, (), (PacketField("+1 > . 1:3(2) // 1.100000"),), True),
         )
     )
-    view = script_view_of(PageEntry(ScriptOutcome("a.pkt", (), row)), None, undrawn_diagram(row), met)
+    view = script_view_of(PageEntry(ScriptOutcome("a.pkt", (), row)), None, undrawn_diagram_with_reason(row), met)
     page = render_script_page(view, False).decode()
     section = page[page.index("<h2>Line by line</h2>") :]
     assert '<a href="#L1">1</a></th><td><code>0 close(3) = 0</code>' in section
@@ -165,7 +167,7 @@ def test_what_each_line_was_met_by_stands_on_the_page_of_a_script_that_fails() -
     assert (
         "Line by line"
         not in render_script_page(
-            script_view_of(PageEntry(ScriptOutcome("a.pkt", (), row)), None, undrawn_diagram(row)), False
+            script_view_of(PageEntry(ScriptOutcome("a.pkt", (), row)), None, undrawn_diagram_with_reason(row)), False
         ).decode()
     )
 
@@ -180,9 +182,10 @@ def test_the_table_names_the_rule_and_the_reason_of_an_error() -> None:
 
 def test_settings_stand_on_the_page() -> None:
     entry = PageEntry(
-        ScriptOutcome("a", (("initial_window", "rfc6928"), ("sack", False)), Row(Verdict.PASS, 0)), make_text(b"")
+        ScriptOutcome("a", (("initial_window", "rfc6928"), ("sack", False)), Row(Verdict.PASS, 0)),
+        make_newline_ended_text_within_limits(b""),
     )
-    assert script_view_of(entry, None, undrawn_diagram(entry.outcome.row)).settings == (
+    assert script_view_of(entry, None, undrawn_diagram_with_reason(entry.outcome.row)).settings == (
         NamedFact("initial_window", '"rfc6928"'),
         NamedFact("sack", "false"),
     )
@@ -193,12 +196,12 @@ def test_settings_stand_on_the_page() -> None:
 )
 def test_what_is_no_object_of_a_script_is_not_taken(message: bytes) -> None:
     with pytest.raises(UnexpectedAnswerError):
-        parse_causes(b"[1]\njob 1 s1 steps 2\n" + message)
+        parse_causes_by_script_and_line(b"[1]\njob 1 s1 steps 2\n" + message)
 
 
 def test_what_is_no_object_tells_something_else() -> None:
     message = b'job 1 s1 steps 2\n{"name": "s1", "line": 2}\n[1]\n\xff'
-    assert parse_causes(message) == {(b"s1", 2): {"name": "s1", "line": 2}}
+    assert parse_causes_by_script_and_line(message) == {(b"s1", 2): {"name": "s1", "line": 2}}
 
 
 PATHS = [
@@ -217,10 +220,10 @@ PATHS = [
 
 
 def test_each_path_has_a_file_of_its_own_that_any_system_takes() -> None:
-    files = list(map(page_file_of, PATHS))
+    files = list(map(page_file_name_of, PATHS))
     assert len(set(files)) == len(PATHS)
-    assert all(is_page_file(it) and len(it) < 120 and it[0] not in "._-" for it in files)
-    assert page_file_of("a/b.pkt").startswith("a_b-")
+    assert all(is_script_page_file(it) and len(it) < 120 and it[0] not in "._-" for it in files)
+    assert page_file_name_of("a/b.pkt").startswith("a_b-")
 
 
 def octets_in(folder: Path) -> dict[str, bytes]:
@@ -240,14 +243,14 @@ def test_the_same_run_gives_the_same_octets_and_takes_away_what_is_gone(
             "page.css",
             "page.js",
             "sender.css",
-            *(f"scripts/{page_file_of(f'in/{name}.pkt')}" for name in "abc"),
+            *(f"scripts/{page_file_name_of(f'in/{name}.pkt')}" for name in "abc"),
         ]
     )
     called = call(programs, "run", "--html", "two", "in")
     assert (called.status, called.err, octets_in(tmp_path / "two")) == (1, "", one)
     (tmp_path / "in/c.pkt").unlink()
     assert call(programs, "run", "--html", "two", "in").status == 1
-    assert set(one) - set(octets_in(tmp_path / "two")) == {f"scripts/{page_file_of('in/c.pkt')}"}
+    assert set(one) - set(octets_in(tmp_path / "two")) == {f"scripts/{page_file_name_of('in/c.pkt')}"}
 
 
 @pytest.mark.parametrize("name", ["notes.txt", "index.html", "scripts/mine.html", "page"])
@@ -275,10 +278,10 @@ def test_a_page_that_cannot_be_written_is_told_and_all_rows_are_shown(
     programs: Path, tmp_path: Path, call: Call
 ) -> None:
     write(tmp_path / "in", a=FAILS)
-    (tmp_path / "out/scripts" / page_file_of("in/a.pkt")).mkdir(parents=True)
+    (tmp_path / "out/scripts" / page_file_name_of("in/a.pkt")).mkdir(parents=True)
     called = call(programs, "run", "--html", "out", "in")
     assert (called.status, called.rows) == (2, ["in/a.pkt:1: fail result"])
-    assert called.err == f"pdsuite: {tmp_path}/out/scripts/{page_file_of('in/a.pkt')}: Is a directory\n"
+    assert called.err == f"pdsuite: {tmp_path}/out/scripts/{page_file_name_of('in/a.pkt')}: Is a directory\n"
 
 
 def test_scripts_that_were_not_run_stand_in_the_table(programs: Path, tmp_path: Path, call: Call) -> None:
@@ -287,7 +290,7 @@ def test_scripts_that_were_not_run_stand_in_the_table(programs: Path, tmp_path: 
     assert call(programs, "run", "--fail-fast", "--html", "out", "in").status == 1
     table = (tmp_path / "out/index.html").read_text()
     assert table.count('data-verdict="not run"') == 36
-    assert "It was not run" in (tmp_path / "out/scripts" / page_file_of("in/s099.pkt")).read_text()
+    assert "It was not run" in (tmp_path / "out/scripts" / page_file_name_of("in/s099.pkt")).read_text()
 
 
 def test_the_page_of_a_script_that_went_and_came_back_is_drawn_again(tmp_path: Path) -> None:
@@ -295,14 +298,14 @@ def test_the_page_of_a_script_that_went_and_came_back_is_drawn_again(tmp_path: P
     one, other = (PageEntry(ScriptOutcome(it, (), Row(Verdict.PASS, 1))) for it in paths)
     with Stop(()) as stop, PageUpdates(tmp_path / "page", DiagramChoice(), print) as drawing:
         for entries in ([one, other], [other], [one, other]):
-            drawing.queue_entries(entries)
+            drawing.queue_entries_and_advance_drawing(entries)
             drawing.wait_until_drawn(stop, lambda done, count: None)
-    assert sorted(it.name for it in (tmp_path / "page" / FOLDER).iterdir()) == sorted(map(page_file_of, paths))
+    assert sorted(it.name for it in (tmp_path / "page" / FOLDER).iterdir()) == sorted(map(page_file_name_of, paths))
 
 
 def test_watch_keeps_the_page_up_and_draws_only_what_changed(programs: Path, tmp_path: Path) -> None:
     write(tmp_path / "in", a=PASSES, b=PASSES, c=FAILS)
-    pages = {name: tmp_path / "out/scripts" / page_file_of(f"in/{name}.pkt") for name in "abcd"}
+    pages = {name: tmp_path / "out/scripts" / page_file_name_of(f"in/{name}.pkt") for name in "abcd"}
 
     def await_table(words: str, runs: int = 1) -> None:
         """Waits until the table has these words, and until nothing more is drawn."""

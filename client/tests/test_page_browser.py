@@ -9,7 +9,7 @@ from selenium import webdriver
 from selenium.webdriver.common.by import By
 from selenium.webdriver.common.keys import Keys
 
-from pdsuite.page.links import page_file_of
+from pdsuite.page.links import page_file_name_of
 from tests.browser_fixture import EVIL, HTML, SCRIPTS, Browser, make, path
 from tests.helpers import PASSES, TOP, write
 
@@ -39,7 +39,7 @@ def test_the_table_has_each_script_with_its_verdict_and_its_first_failing_line(f
 @pytest.mark.parametrize("name", SCRIPTS)
 def test_each_row_leads_to_a_page_of_its_own_and_back(name: bytes, few: Browser) -> None:
     few.look()
-    (link,) = few.all(f'#scripts a[href="scripts/{page_file_of(os.fsdecode(path(name)))}"]')
+    (link,) = few.all(f'#scripts a[href="scripts/{page_file_name_of(os.fsdecode(path(name)))}"]')
     shown = link.text
     link.click()
     assert few.texts("h1") == [shown]
@@ -49,7 +49,7 @@ def test_each_row_leads_to_a_page_of_its_own_and_back(name: bytes, few: Browser)
 
 
 def test_what_scripts_hold_is_never_html(few: Browser) -> None:
-    for file in ("index.html", f"scripts/{page_file_of(os.fsdecode(path(EVIL)))}"):
+    for file in ("index.html", f"scripts/{page_file_name_of(os.fsdecode(path(EVIL)))}"):
         few.look(file)
         assert few.all("main img") == few.all("main b") == few.all("main script") == []
         assert few.run("return document.title") not in ("1", "x")
@@ -91,7 +91,7 @@ return [".text", ".cause section", ".diagram"].map((it) => document.querySelecto
 @pytest.mark.parametrize("width", [360, 700, 1_000, 1_100, 1_920])
 @pytest.mark.parametrize("name", ["seq", "missing", "syntax"])
 def test_the_text_comes_before_the_boxes_at_every_width(name: str, width: int, few: Browser) -> None:
-    few.look(f"scripts/{page_file_of(f'in/{name}.pkt')}", width=width)
+    few.look(f"scripts/{page_file_name_of(f'in/{name}.pkt')}", width=width)
     tops = few.run(TOPS)
     assert isinstance(tops, list)
     text, cause, diagram = tops
@@ -179,7 +179,7 @@ return Math.min(...[...document.querySelectorAll("body *")]
 @pytest.mark.parametrize("scheme", ["light", "dark"])
 @pytest.mark.parametrize("name", [None, b"seq", b"missing", b"syntax"])
 def test_text_stands_out_in_both_schemes(scheme: str, name: bytes | None, few: Browser) -> None:
-    file = "index.html" if name is None else f"scripts/{page_file_of(os.fsdecode(path(name)))}"
+    file = "index.html" if name is None else f"scripts/{page_file_name_of(os.fsdecode(path(name)))}"
     few.look(file, scheme=scheme)
     paper = str(few.run("return getComputedStyle(document.body).backgroundColor"))
     assert ("rgb(250" in paper) == (scheme == "light")
@@ -190,7 +190,7 @@ def test_text_stands_out_in_both_schemes(scheme: str, name: bytes | None, few: B
 @pytest.mark.parametrize("width", [360, 1_600])
 @pytest.mark.parametrize("name", [None, *SCRIPTS])
 def test_no_page_is_wider_than_its_window(width: int, name: bytes | None, few: Browser) -> None:
-    file = "index.html" if name is None else f"scripts/{page_file_of(os.fsdecode(path(name)))}"
+    file = "index.html" if name is None else f"scripts/{page_file_name_of(os.fsdecode(path(name)))}"
     few.look(file, width=width)
     assert few.run("return document.documentElement.scrollWidth") == width
 
@@ -203,7 +203,7 @@ def test_a_thousand_scripts_are_filtered_at_once(many: Browser) -> None:
     many.all("input[value=fail]")[0].click()
     assert many.texts("#scripts tbody th") == ["in/s0907.pkt"]
     files = {it.name for it in (many.folder / "scripts").iterdir()}
-    assert files == {page_file_of(f"in/s{number:04}.pkt") for number in range(1_024)}
+    assert files == {page_file_name_of(f"in/s{number:04}.pkt") for number in range(1_024)}
 
 
 @pytest.fixture(scope="module")
@@ -232,7 +232,7 @@ def test_a_diagram_stands_in_the_page_in_the_size_and_the_colours_of_its_reader(
 ) -> None:
     fills = []
     for scheme in ("light", "dark"):
-        drawn.look(f"scripts/{page_file_of('in/seq.pkt')}", width=width, scheme=scheme)
+        drawn.look(f"scripts/{page_file_name_of('in/seq.pkt')}", width=width, scheme=scheme)
         seen = [it.get_attribute("class") for it in drawn.all(".diagram svg") if it.is_displayed()]
         assert seen == [name]
         assert drawn.run("return document.documentElement.scrollWidth") == width
@@ -254,5 +254,5 @@ return boxes.flatMap(([one, a], i) => boxes.slice(i + 1).filter(([, b]) => !apar
 
 @pytest.mark.parametrize("width", [360, 1_600])
 def test_no_text_of_a_diagram_lies_over_another(width: int, drawn: Browser) -> None:
-    drawn.look(f"scripts/{page_file_of('in/seq.pkt')}", width=width)
+    drawn.look(f"scripts/{page_file_name_of('in/seq.pkt')}", width=width)
     assert drawn.run(OVERLAPS) == []

@@ -6,7 +6,7 @@ from pathlib import Path
 
 import pytest
 
-from pdsuite.page.links import page_file_of, plot_file_names
+from pdsuite.page.links import page_file_name_of, plot_file_names
 from tests.helpers import PASSES, TOP, Call, write
 from tests.test_page import octets_in
 from tests.watch_process import Watching
@@ -35,7 +35,7 @@ def record(folder: Path, command: str, status: int = 0) -> None:
 
 
 def page(folder: Path, path: str) -> str:
-    return (folder / "scripts" / page_file_of(path)).read_text()
+    return (folder / "scripts" / page_file_name_of(path)).read_text()
 
 
 def test_the_first_that_fail_are_drawn_and_the_others_say_how_they_are(
@@ -117,7 +117,7 @@ def test_watch_draws_what_is_to_be_drawn_after_each_save(recorder: Path, tmp_pat
 
     def await_page(name: str, words: str) -> None:
         """Waits until the page of a script has these words."""
-        path = tmp_path / "out/scripts" / page_file_of(f"in/{name}.pkt")
+        path = tmp_path / "out/scripts" / page_file_name_of(f"in/{name}.pkt")
         watching._await(lambda: path.exists() and words in path.read_text(), words)
 
     with Watching(tmp_path, recorder, "--html", "out", "--plots", "1", "--plot", "c.pkt", "in") as watching:

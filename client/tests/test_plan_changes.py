@@ -7,7 +7,7 @@ from collections.abc import Iterator, Mapping
 import pytest
 
 from pdsuite.scripts.settings import Settings
-from pdsuite.scripts.text import ScriptText, make_text
+from pdsuite.scripts.text import ScriptText, make_newline_ended_text_within_limits
 from pdsuite.scripts.text_edit import Edit
 from pdsuite.watch import plan_changes as module
 from pdsuite.watch.plan_changes import AddScript, EditScript, RemoveScript, RunChange, RunContents, SetKey, WantedScript
@@ -17,7 +17,7 @@ from tests.model import settings_words
 NONE: Settings = ()
 SMALL: Settings = (("mss", 100),)
 PLAIN: Settings = (("sack", False),)
-ONE, TWO = make_text(b"one\n"), make_text(b"two\n")
+ONE, TWO = make_newline_ended_text_within_limits(b"one\n"), make_newline_ended_text_within_limits(b"two\n")
 
 
 def contents(settings: Settings, **texts: ScriptText) -> RunContents:
@@ -29,7 +29,12 @@ def wanted(settings: Settings, **texts: ScriptText) -> dict[str, WantedScript]:
 
 
 def test_what_is_held_already_takes_no_turn() -> None:
-    assert plan_changes([contents(NONE, a=ONE, b=TWO)], wanted(NONE, b=make_text(b"two\n"), a=ONE)) == []
+    assert (
+        plan_changes(
+            [contents(NONE, a=ONE, b=TWO)], wanted(NONE, b=make_newline_ended_text_within_limits(b"two\n"), a=ONE)
+        )
+        == []
+    )
 
 
 def test_a_save_an_add_and_a_removal_are_one_act_each() -> None:
@@ -144,7 +149,7 @@ def random_states(chance: random.Random, count: int) -> Iterator[dict[str, Wante
             else:
                 settings = state[path].settings if path in state and chance.random() < 0.8 else chance.choice(kinds)
                 lines = [chance.choice((b"x", b"y", b"z", b"")) for _ in range(chance.randrange(5))]
-                state[path] = WantedScript(settings, make_text(b"\n".join(lines)))
+                state[path] = WantedScript(settings, make_newline_ended_text_within_limits(b"\n".join(lines)))
         yield dict(sorted(state.items()))
 
 

@@ -8,7 +8,7 @@ from pathlib import Path
 
 import pytest
 
-from pdsuite.scripts.file_diff import match_line_ends, unified_hunks
+from pdsuite.scripts.file_diff import give_recording_line_ends_of_file, unified_hunks
 from tests.helpers import HANGS, TOP, Call, Called, ends, wait_for, write
 
 FAKE_PDRECORD = Path(__file__).with_name("fake_pdrecord.py")
@@ -190,7 +190,7 @@ def test_standard_input_is_recorded_with_the_settings_of_the_folder(recorders: P
     ],
 )
 def test_a_recording_has_the_ends_of_lines_of_its_file(old: bytes, recording: bytes, new: bytes) -> None:
-    assert match_line_ends(old, recording) == new
+    assert give_recording_line_ends_of_file(old, recording) == new
 
 
 def test_hunks_are_those_that_diff_writes(tmp_path: Path) -> None:

@@ -2,12 +2,12 @@
 
 from itertools import islice
 
-from pdsuite.compare.divergence import played_events
+from pdsuite.compare.divergence import parse_played_events
 from pdsuite.search.candidates import CandidateLists
-from pdsuite.search.generate import scenario_lists
-from pdsuite.search.relevance import emphasis_of_changes, suggest_suite_script
+from pdsuite.search.generate import scenario_lists_of_sizes
+from pdsuite.search.relevance import emphasis_of_changes, script_name_and_comment_of_changed_rule
 from pdsuite.search.scenario import Emphasis, Theme
-from pdsuite.search.search import play_side_by_side
+from pdsuite.search.search import play_input_steps_in_joint_recordings
 from pdsuite.search.states import parse_state, state_steps_in, states_before_inputs
 from tests.test_input_search import Toy
 
@@ -29,16 +29,18 @@ def test_what_the_changed_lines_name_comes_first_or_else_what_all_that_changed_n
 
 
 def test_a_script_is_offered_by_the_name_and_the_sections_of_what_changed() -> None:
-    assert suggest_suite_script([OTHER, CHANGED]) == [
+    assert script_name_and_comment_of_changed_rule([OTHER, CHANGED]) == [
         "restart.pkt",
         "// RFC 5681, section 4.1: restart: WHAT THE SECTION ASKS FOR.",
         "// If it fails, WHAT IS WRONG THEN.",
     ]
-    assert suggest_suite_script([OTHER]) == []
+    assert script_name_and_comment_of_changed_rule([OTHER]) == []
 
 
 def test_settings_that_come_first_are_drawn_in_most_plans_and_fixed_ones_in_none() -> None:
-    (made,) = scenario_lists(3, [200], Emphasis(frozenset({"recovery_algorithm"}), frozenset(), frozenset({"mss"})))
+    (made,) = scenario_lists_of_sizes(
+        3, [200], Emphasis(frozenset({"recovery_algorithm"}), frozenset(), frozenset({"mss"}))
+    )
     keys = [[key for key, _ in it.settings] for it in made]
     assert sum("recovery_algorithm" in it for it in keys) > 100 and not any("mss" in it for it in keys)
 
@@ -48,7 +50,7 @@ def drawn(seed: int) -> list[object]:
     drawing = CandidateLists(seed, [12, 12, 24])
     tried: list[object] = []
     for games in drawing.input_lists():
-        played = play_side_by_side(games, Toy())
+        played = play_input_steps_in_joint_recordings(games, Toy())
         tried += [it.inputs for it in played]
         drawing.keep_inputs_with_new_steps(played)
     return tried
@@ -60,10 +62,10 @@ def test_the_same_seed_tries_the_same_inputs_in_the_same_order_variations_too() 
 
 
 def test_the_state_before_each_input_is_the_one_after_all_that_left_before() -> None:
-    played = list(played_events(TRACE))
-    assert [it.fact_as_number("una") for it in states_before_inputs(played)] == [0, 0, 1, 1001]
+    played = list(parse_played_events(TRACE))
+    assert [it.fact_as_number_or_default("una") for it in states_before_inputs(played)] == [0, 0, 1, 1001]
     assert [it.is_open for it in states_before_inputs(played)] == [False, False, True, True]
-    assert parse_state(played[1].state).fact_as_number("cwnd") == 4000
+    assert parse_state(played[1].state).fact_as_number_or_default("cwnd") == 4000
     # A packet that leaves in the same kind of state is no step.
     steps = list(islice(state_steps_in(TRACE), 9))
     assert [what for _, what, _ in steps][:2] == ["listen", ". "] and len({it[2] for it in steps}) >= 3

@@ -10,7 +10,7 @@ import pytest
 from pdsuite.lsp.positions import DocumentLines
 from pdsuite.lsp.toml_positions import diagnostic_of_fault
 from pdsuite.scripts.defaults import KEYS, Word, refusal_help
-from pdsuite.scripts.renamed import KEYS as NAMES, WORDS, new_name_hint, rename_refusal
+from pdsuite.scripts.renamed import KEYS as NAMES, WORDS, new_name_hint, refusal_reason_if_renamed
 from pdsuite.scripts.settings import Value, value_as_toml
 from tests.helpers import PASSES, Call, write
 from tests.watch_process import Watching
@@ -158,5 +158,5 @@ def test_each_new_name_is_a_setting_or_a_word_that_it_takes() -> None:
 
 def test_all_other_names_are_the_programs_to_refuse() -> None:
     for key in (*KEYS, "byte_count", "recovery"):
-        assert rename_refusal(key, 1) is None and new_name_hint(key, 1) is None
+        assert refusal_reason_if_renamed(key, 1) is None and new_name_hint(key, 1) is None
     assert refusal_help("abc_limit", 2, "UnknownKey") is None  # by a sender that lacks it

@@ -14,7 +14,7 @@ from junitparser import Error, Failure, JUnitXml, Skipped
 
 from pdsuite.programs.verdict import Row, Verdict
 from pdsuite.reports.junit import junit_xml
-from pdsuite.reports.last_run import leave_report
+from pdsuite.reports.last_run import save_report_or_note_failure
 from pdsuite.run.outcomes import ScriptOutcome
 from tests.helpers import TOP, Call, write
 
@@ -355,10 +355,12 @@ def test_what_a_signal_leaves_of_20000_scripts_is_written_soon(tmp_path: Path, m
     """The report of the run, which the next one reads, and JUnit's; in seconds of the processor."""
     monkeypatch.setenv("XDG_CACHE_HOME", str(tmp_path))
     paths = [f"suite/{number % 10}/script{number:05}.pkt" for number in range(20_000)]
-    leave_report([Path("suite")], [ScriptOutcome(it, (), Row(Verdict.PASS, 9)) for it in paths], False, pytest.fail)
+    save_report_or_note_failure(
+        [Path("suite")], [ScriptOutcome(it, (), Row(Verdict.PASS, 9)) for it in paths], False, pytest.fail
+    )
     left = [ScriptOutcome(it, (), Row(Verdict.NOT_RUN)) for it in paths]
     begin = time.process_time()
-    leave_report([Path("suite")], left, False, pytest.fail)
+    save_report_or_note_failure([Path("suite")], left, False, pytest.fail)
     reported = junit_xml(left, 1.0)
     assert time.process_time() - begin < SLOW
     case = ElementTree.fromstring(reported).find("testsuite/testcase/error")

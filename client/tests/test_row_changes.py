@@ -6,7 +6,7 @@ from collections.abc import Mapping
 import pytest
 
 from pdsuite.programs.verdict import Row, Verdict
-from pdsuite.reports.row_changes import RowChange, RowChangeKind, row_changes
+from pdsuite.reports.row_changes import RowChange, RowChangeKind, row_changes_sorted_by_kind
 from pdsuite.reports.saved_reports import SavedRow
 
 PASSES = Row(Verdict.PASS, 9)
@@ -28,7 +28,7 @@ def rows(**each: Row) -> Mapping[str, SavedRow]:
 
 def turned(before: Row | None, now: Row | None) -> RowChange | None:
     """What is reported of one script that had and has these rows."""
-    each = row_changes({} if before is None else rows(a=before), {} if now is None else rows(a=now))
+    each = row_changes_sorted_by_kind({} if before is None else rows(a=before), {} if now is None else rows(a=now))
     assert len(each) <= 1
     return each[0] if each else None
 
@@ -62,7 +62,7 @@ def test_a_new_script_is_worse_where_it_does_not_pass() -> None:
 
 @pytest.mark.parametrize(("is_known", "is_worse"), [(True, False), (False, True)])
 def test_a_new_script_that_fails_is_worse_where_that_is_not_expected_of_it(is_known: bool, is_worse: bool) -> None:
-    (it,) = row_changes({}, {"a": SavedRow(FAILS, is_known=is_known)})
+    (it,) = row_changes_sorted_by_kind({}, {"a": SavedRow(FAILS, is_known=is_known)})
     assert (it.kind, it.is_worse) == (RowChangeKind.NEW, is_worse)
 
 
@@ -84,7 +84,7 @@ def test_a_script_that_was_not_run_is_as_if_it_had_not_been_there() -> None:
 def test_the_worst_comes_first_and_equal_ones_in_the_order_of_paths() -> None:
     before = rows(z=PASSES, a=PASSES, again=FAILS, gone=FAILS, same=FAILS, other=FAILS, left=PASSES)
     now = rows(new=PASSES, again=PASSES, a=FAILS, z=FAILS, same=FAILS, other=OTHERS[0], left=NOT_RUN)
-    each = [(it.path, it.kind) for it in row_changes(before, now)]
+    each = [(it.path, it.kind) for it in row_changes_sorted_by_kind(before, now)]
     assert each == [
         ("a", RowChangeKind.NO_MORE),
         ("z", RowChangeKind.NO_MORE),
@@ -109,6 +109,6 @@ def test_what_turned_one_way_turns_back_the_other_way(seed: int) -> None:
         RowChangeKind.NEW: RowChangeKind.GONE,
         RowChangeKind.GONE: RowChangeKind.NEW,
     }
-    there = {it.path: it.kind for it in row_changes(before, now)}
-    assert {it.path: back.get(it.kind, it.kind) for it in row_changes(now, before)} == there
+    there = {it.path: it.kind for it in row_changes_sorted_by_kind(before, now)}
+    assert {it.path: back.get(it.kind, it.kind) for it in row_changes_sorted_by_kind(now, before)} == there
     assert there.keys() == {it for it in {**before, **now} if before.get(it) != now.get(it)}

@@ -9,7 +9,7 @@ from pathlib import Path
 import pytest
 
 from pdsuite.programs.program import Program
-from pdsuite.programs.refusals import refusal_lines
+from pdsuite.programs.refusals import query_refusal_lines
 from pdsuite.scripts.config import Claim
 from pdsuite.scripts.defaults import KEYS, Number
 from pdsuite.scripts.settings import Value
@@ -211,8 +211,8 @@ def test_the_program_takes_what_the_client_says_a_key_takes(key: str, programs: 
     bad += ["rfc5681", "rfc6928"] if isinstance(it.default, bool) else [True, False]
     claims = [Claim("p", "", key, value) for value in (*good, *bad)]
     with Stop() as stop:
-        lines = refusal_lines(claims, lambda: Program([programs / "pdregress"], stop))
-    assert lines == [f"p: {key}: BadValue: it takes {it.accepted_values}"] * len(bad)
+        lines = query_refusal_lines(claims, lambda: Program([programs / "pdregress"], stop))
+    assert lines == [f"p: {key}: BadValue: it takes {it.accepted_values_text}"] * len(bad)
 
 
 def test_fail_fast_leaves_later_pieces_out(programs: Path, tmp_path: Path, call: Call) -> None:

@@ -4,9 +4,9 @@ import subprocess
 import sys
 from pathlib import Path
 
-from pdsuite.programs.batch_protocol import ProgramAnswer, Case, batch_input, parse_batch_answers
-from pdsuite.programs.protocol import add_command, script_name, set_command
-from pdsuite.scripts.text import make_text
+from pdsuite.programs.batch_protocol import ProgramAnswer, Case, batch_input, parse_batch_answers_or_faults
+from pdsuite.programs.protocol import add_command, script_name_of_number, set_command
+from pdsuite.scripts.text import make_newline_ended_text_within_limits
 from tests.helpers import TOP
 
 SECONDS = 1_200
@@ -16,10 +16,10 @@ SYN_ACK = b"+0 > S. 0:0(0) ack 1 win 65535 <mss %d>\n"
 
 
 def test_each_start_of_both_programs_has_its_own_words_input_and_answer(tmp_path: Path) -> None:
-    wrong = make_text(LISTENS + SYN + SYN_ACK % 1_000)
+    wrong = make_newline_ended_text_within_limits(LISTENS + SYN + SYN_ACK % 1_000)
     cases = [
         Case(("pdrecord", "--settings", "mss = 1200\nsack = false"), LISTENS + SYN),
-        Case(("pdregress", "--explain"), set_command("mss", "1200") + add_command(script_name(0), wrong)),
+        Case(("pdregress", "--explain"), set_command("mss", "1200") + add_command(script_name_of_number(0), wrong)),
         Case(("pdrecord", "--no-such-word"), b""),
         Case(("pdrecord",), LISTENS + SYN),
     ]
@@ -31,7 +31,7 @@ def test_each_start_of_both_programs_has_its_own_words_input_and_answer(tmp_path
     done = subprocess.run(words, stdin=subprocess.DEVNULL, capture_output=True, timeout=SECONDS)
     assert (done.returncode, done.stdout, done.stderr) == (0, b"", b"")
     output, errors, status = ((answers / f"a.{end}").read_bytes() for end in ("output", "errors", "status"))
-    recorded, reported, refused, other = parse_batch_answers(output, errors, status.decode(), len(cases))
+    recorded, reported, refused, other = parse_batch_answers_or_faults(output, errors, status.decode(), len(cases))
     assert recorded == ProgramAnswer(LISTENS + SYN + SYN_ACK % 1_200, b"")
     assert reported.output.startswith(b"s0 fail 5 options\ntotal 1 pass 0 fail 1 ")
     assert reported.errors.startswith(b"s0:5: fail options: the packet has other options\n")

@@ -29,8 +29,12 @@ NAMES = ["a.pkt", "a b/c.pkt", "q\"uo'te.pkt", r"a\x0ab.pkt", r"\xff.pkt", r"a\\
 def written(outcomes: list[ScriptOutcome], shard: Shard | None = None) -> bytes:
     """A report as `pdsuite run --json` prints it."""
     form = JsonFormatter(shard)
-    entries = [form.script_entry(number, it) for number, it in enumerate(outcomes, 1)]
-    parts = [form.opening(len(outcomes)), *entries, form.summary(OutcomeTotals.of_outcomes(outcomes), 1.5)]
+    entries = [form.streamed_script_entry_or_none(number, it) for number, it in enumerate(outcomes, 1)]
+    parts = [
+        form.opening_before_scripts(len(outcomes)),
+        *entries,
+        form.totals_after_scripts(OutcomeTotals.of_outcomes(outcomes), 1.5),
+    ]
     return "".join(it.plain for it in parts).encode()
 
 

@@ -3,8 +3,8 @@
 from dataclasses import replace
 from typing import Any
 
-from pdsuite.commands.search import _side_oracles
-from pdsuite.compare.sides import Side, make_side
+from pdsuite.commands.search import _side_oracles_without_lacked_keys
+from pdsuite.compare.sides import Side, make_side_named_with_settings
 from pdsuite.programs.refusals import Refusal
 from pdsuite.scripts.config import Claim, layer_of_option
 from pdsuite.scripts.renamed import UNKNOWN_KEY
@@ -27,7 +27,7 @@ class FakeScreen:
     def __init__(self) -> None:
         self.noted: list[str] = []
 
-    def print_note(self, line: str) -> None:
+    def print_note_on_stderr(self, line: str) -> None:
         self.noted.append(line)
 
 
@@ -43,7 +43,7 @@ class NamedSender:
 
 def side(name: str) -> Side:
     sender: Any = NamedSender(name)
-    return make_side(sender, "", "--base-settings")
+    return make_side_named_with_settings(sender, "", "--base-settings")
 
 
 def test_each_side_is_asked_without_the_keys_that_its_sender_lacks() -> None:
@@ -51,7 +51,7 @@ def test_each_side_is_asked_without_the_keys_that_its_sender_lacks() -> None:
     oracles: Any = (Oracle("early", "mss"), Oracle())
     screen: Any = FakeScreen()
     common = layer_of_option("early = 2\nlate = 3")
-    before, after = _side_oracles(oracles, (side("old"), side("new")), common, screen)
+    before, after = _side_oracles_without_lacked_keys(oracles, (side("old"), side("new")), common, screen)
     assert sorted(before.side.lacks) == ["early", "mss"] and not after.side.lacks
     assert (
         before.side.effective_settings((("early", 2), ("late", 3))),
@@ -67,7 +67,7 @@ def test_a_key_that_a_sender_has_by_its_old_name_has_its_value_there() -> None:
     oracles: Any = (Oracle("abc_limit", "recovery_algorithm", "slow_start_after_idle", "restart_after_idle"), Oracle())
     screen: Any = FakeScreen()
     common = layer_of_option('abc_limit = 2\nrecovery_algorithm = "rfc9937"\nslow_start_after_idle = true')
-    old, new = _side_oracles(oracles, (side("old"), side("new")), common, screen)
+    old, new = _side_oracles_without_lacked_keys(oracles, (side("old"), side("new")), common, screen)
     given = sorted_settings(common.keys)
     assert old.side.effective_settings(given) == (("byte_counting", 2), ("recovery_rate", "prr"))
     assert new.side.effective_settings(given) == given and not new.side.renamed

@@ -8,7 +8,7 @@ from pathlib import Path
 import pytest
 
 from pdsuite.scripts.discover import find_scripts
-from pdsuite.scripts.shards import Shard, balance_by_octets, parse_shard, scripts_of_shard
+from pdsuite.scripts.shards import Shard, balance_by_octets, parse_shard_if_valid, scripts_of_shard
 from pdsuite.signals import Stop
 from tests.helpers import Call, write
 
@@ -55,7 +55,7 @@ def test_each_name_is_in_one_part_and_no_part_has_a_script_more_than_another(see
 @pytest.mark.parametrize("words", ["1/1", "1/3", "3/3", "7/999999999", "01/02"])
 def test_a_shard_is_two_numbers(words: str) -> None:
     first, last = map(int, words.split("/"))
-    assert parse_shard(words) == Shard(first, last)
+    assert parse_shard_if_valid(words) == Shard(first, last)
 
 
 WRONG = [
@@ -79,7 +79,7 @@ WRONG = [
 
 @pytest.mark.parametrize("words", WRONG, ids=range(len(WRONG)))
 def test_all_else_is_none(words: str) -> None:
-    assert parse_shard(words) is None
+    assert parse_shard_if_valid(words) is None
 
 
 def shards_of(folder: Path, *paths: str, count: int) -> list[list[str]]:

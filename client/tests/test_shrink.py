@@ -11,13 +11,13 @@ from pdsuite.programs.recorder import Recording
 from pdsuite.programs.verdict import Row
 from pdsuite.search.continuations import continued_inputs_of_find
 from pdsuite.search.find import Find
-from pdsuite.search.inputs import Input, Inputs, make_call, make_inbound_packet
+from pdsuite.search.inputs import Input, Inputs, make_call, make_dataless_inbound_packet
 from pdsuite.search.oracle import ConfiguredScript
 from pdsuite.search.shrink import shrink_find
 from pdsuite.search.simulate import LONGEST_GAP, LONG_GAPS, TICK
 
 WRITE = make_call("write", 4, "...", 3_000)
-ACK = make_inbound_packet(".", 1, 1, 1_000)
+ACK = make_dataless_inbound_packet(".", 1, 1, 1_000)
 RECORDED = (
     "+0 > P. 1:1001(1000) ack 1\n//= at 0.000000 ESTABLISHED una:1 next:1001 top:1001\n"
     "+1 > P. 1001:3001(2000) ack 1\n//= at 1.000000 ESTABLISHED una:1 next:3001 top:3001\n"
@@ -31,13 +31,13 @@ def inputs_of(*events: tuple[int, Packet | Call], is_exact: bool = False) -> Inp
 class RecordingSender:
     """Is recorded the same on all inputs."""
 
-    def recordings(self, inputs: Sequence[Inputs | ConfiguredScript]) -> list[Recording]:
+    def record_inputs_or_scripts(self, inputs: Sequence[Inputs | ConfiguredScript]) -> list[Recording]:
         return [Recording("a\n")] * len(inputs)
 
-    def rows(self, scripts: Sequence[ConfiguredScript]) -> list[Row]:
+    def run_scripts_for_rows(self, scripts: Sequence[ConfiguredScript]) -> list[Row]:
         raise NotImplementedError
 
-    def explain(self, script: ConfiguredScript) -> list[str]:
+    def explanation_lines_of_script(self, script: ConfiguredScript) -> list[str]:
         raise NotImplementedError
 
 
@@ -47,7 +47,9 @@ class Finds:
     def __init__(self, is_good: Callable[[Inputs], bool]) -> None:
         self.is_good = is_good
 
-    def finds_among(self, inputs: Sequence[Inputs], recordings: Sequence[Recording]) -> list[Find | None]:
+    def find_or_none_for_each_input(
+        self, inputs: Sequence[Inputs], recordings: Sequence[Recording]
+    ) -> list[Find | None]:
         return [Find(it, "") if self.is_good(it) else None for it in inputs]
 
 
@@ -77,18 +79,22 @@ def test_what_follows_a_shorter_gap_moves_along() -> None:
             lambda it: int(it.arguments[-1]) >= 1_500,
             make_call("write", 4, "...", 2_000),
         ),
-        (make_inbound_packet("F.", 1, 1, 257), lambda it: True, make_inbound_packet(".", 1, 1, 257)),
+        (make_dataless_inbound_packet("F.", 1, 1, 257), lambda it: True, make_dataless_inbound_packet(".", 1, 1, 257)),
         (
-            make_inbound_packet(".", 1, 1, 257, (TcpOption("sack", (1, 2, 3, 4)),)),
+            make_dataless_inbound_packet(".", 1, 1, 257, (TcpOption("sack", (1, 2, 3, 4)),)),
             lambda it: bool(it.options) and 3 in it.options[0].numbers,
-            make_inbound_packet(".", 1, 1, 257, (TcpOption("sack", (3, 4)),)),
+            make_dataless_inbound_packet(".", 1, 1, 257, (TcpOption("sack", (3, 4)),)),
         ),
         (
-            make_inbound_packet(".", 1, 1, 257, (TcpOption("sack", (1, 2, 3, 4, 5, 6)),)),
+            make_dataless_inbound_packet(".", 1, 1, 257, (TcpOption("sack", (1, 2, 3, 4, 5, 6)),)),
             lambda it: bool(it.options) and 1 in it.options[0].numbers,
-            make_inbound_packet(".", 1, 1, 257, (TcpOption("sack", (1, 2)),)),
+            make_dataless_inbound_packet(".", 1, 1, 257, (TcpOption("sack", (1, 2)),)),
         ),
-        (make_inbound_packet(".", 1, 1, 5_555), lambda it: it.win > 257, make_inbound_packet(".", 1, 1, 1_000)),
+        (
+            make_dataless_inbound_packet(".", 1, 1, 5_555),
+            lambda it: it.win > 257,
+            make_dataless_inbound_packet(".", 1, 1, 1_000),
+        ),
     ],
 )
 def test_an_event_gets_simpler(what: Packet | Call, is_good: Callable[[Any], bool], wanted: Packet | Call) -> None:
@@ -98,7 +104,7 @@ def test_an_event_gets_simpler(what: Packet | Call, is_good: Callable[[Any], boo
 
 def test_a_whole_round_goes_with_the_numbers_that_it_moved() -> None:
     """Of four ACKs none goes by itself, since the last one has to acknowledge a segment more than the one before."""
-    acks = [make_inbound_packet(".", 1, number, 257) for number in (1, 1_001, 2_001, 3_001)]
+    acks = [make_dataless_inbound_packet(".", 1, number, 257) for number in (1, 1_001, 2_001, 3_001)]
     states = [(1, 1_001), (1_001, 2_001), (2_001, 3_001), (3_001, 4_001)]
     recording = "".join(
         f"+0 {it}\n//= at 0.000000 ESTABLISHED una:{una} top:{top} cwnd:4000\n" for it, (una, top) in zip(acks, states)

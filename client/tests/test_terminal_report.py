@@ -19,7 +19,7 @@ from pdsuite.compare.comparison import ComparedScript, ComparisonKind
 from pdsuite.compare.divergence import Divergence, PlayedEvent
 from pdsuite.programs.verdict import Row, Verdict
 from pdsuite.run.outcomes import ScriptOutcome
-from pdsuite.scripts.text import make_text
+from pdsuite.scripts.text import make_newline_ended_text_within_limits
 from pdsuite.watch.folder_moves import folder_moves_between
 from pdsuite.watch.plan_changes import WantedScript
 from pdsuite.watch.terminal_report import TerminalReport
@@ -43,12 +43,17 @@ def report(row: Row, *paths: str) -> Report:
 
 
 def texts(**texts: bytes) -> Mapping[str, WantedScript]:
-    return {path.replace("__", "/"): WantedScript((), make_text(text)) for path, text in texts.items()}
+    return {
+        path.replace("__", "/"): WantedScript((), make_newline_ended_text_within_limits(text))
+        for path, text in texts.items()
+    }
 
 
 def texts_of(outcomes: Report) -> Mapping[str, WantedScript]:
     """A text for each script that only its name decides."""
-    return {path: WantedScript((), make_text(path.split("/")[-1].encode())) for path in outcomes}
+    return {
+        path: WantedScript((), make_newline_ended_text_within_limits(path.split("/")[-1].encode())) for path in outcomes
+    }
 
 
 def live(width: int = 80) -> TerminalReport:
@@ -58,8 +63,10 @@ def live(width: int = 80) -> TerminalReport:
 def shown(before: Report, after: Report, width: int = 80) -> list[str]:
     """The lines of a report that follows another."""
     news = live(width)
-    moves = news.folder_moves(before, after, texts_of(before), texts_of(after))
-    text = news.changed_rows(before, after, moves).append_text(news.changed_explanations(before, after, moves))
+    moves = news.folder_moves_if_report_shows_them(before, after, texts_of(before), texts_of(after))
+    text = news.render_changed_and_gone_rows(before, after, moves).append_text(
+        news.changed_explanations(before, after, moves)
+    )
     return text.append_text(news.totals_line(after, 0.01)).plain.splitlines()
 
 
@@ -121,14 +128,14 @@ def test_totals_have_no_zeros_and_fit() -> None:
 
 
 def test_a_rule_with_the_time_of_day_goes_across() -> None:
-    line = live(60).report_head().plain
+    line = live(60).time_of_day_head_if_any().plain
     assert re.fullmatch(r"\u2500\u2500 \d\d:\d\d:\d\d \u2500{47}\n", line)
 
 
 def test_a_terminal_without_columns_has_a_few() -> None:
     for width in (0, 1, 2):
         lines = live(width).first_report(report(FAIL, "a.pkt"), False, 0.01).plain.splitlines()
-        assert lines[2] == "  state: ESTABLISHED" and len(live(width).report_head().plain) == 21
+        assert lines[2] == "  state: ESTABLISHED" and len(live(width).time_of_day_head_if_any().plain) == 21
 
 
 def test_of_many_that_turn_ten_are_shown_then_how_many_more_and_the_command() -> None:

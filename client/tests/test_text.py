@@ -6,7 +6,7 @@ from pathlib import Path
 
 import pytest
 
-from pdsuite.scripts.text import ScriptText, UnfitTextError, make_text, read_text
+from pdsuite.scripts.text import ScriptText, UnfitTextError, make_newline_ended_text_within_limits, read_text
 
 
 @pytest.mark.parametrize(
@@ -21,7 +21,7 @@ from pdsuite.scripts.text import ScriptText, UnfitTextError, make_text, read_tex
     ],
 )
 def test_a_last_line_counts_with_and_without_its_newline(octets: bytes, text: ScriptText) -> None:
-    assert make_text(octets) == text
+    assert make_newline_ended_text_within_limits(octets) == text
 
 
 FITS = [b"x\n" * 4_096, b"x\n" * 4_095 + b"x", b"\n" * 4_096]
@@ -32,7 +32,7 @@ FITS += [b"x" * 15 + b"\r\n", (b"x" * 15 + b"\r\n") * 4_096]
 @pytest.mark.parametrize("octets", FITS, ids=range(len(FITS)))
 def test_the_largest_texts_fit(octets: bytes, tmp_path: Path) -> None:
     (tmp_path / "a.pkt").write_bytes(octets)
-    assert read_text(str(tmp_path / "a.pkt")) == make_text(octets)
+    assert read_text(str(tmp_path / "a.pkt")) == make_newline_ended_text_within_limits(octets)
 
 
 LARGER = [
@@ -76,5 +76,5 @@ def test_only_regular_files_are_read(tmp_path: Path) -> None:
 
 
 def test_lines_are_found_by_their_number() -> None:
-    text = make_text(b"one\r\n\nthree")
-    assert [text.line(it) for it in range(5)] == [None, b"one", b"", b"three", None]
+    text = make_newline_ended_text_within_limits(b"one\r\n\nthree")
+    assert [text.find_line_by_number(it) for it in range(5)] == [None, b"one", b"", b"three", None]

@@ -5,9 +5,9 @@ import re
 
 import pytest
 
-from pdsuite.scripts.defaults import DEFAULTS, KEYS, can_switch_settings, changed_settings
+from pdsuite.scripts.defaults import DEFAULTS, KEYS, has_default_for_each_dropped_setting, settings_changed_between
 from pdsuite.scripts.settings import Value
-from pdsuite.scripts.text import ScriptText, make_text
+from pdsuite.scripts.text import ScriptText, make_newline_ended_text_within_limits
 from pdsuite.scripts.text_edit import Edit, edit_between
 from tests.helpers import TOP
 
@@ -34,7 +34,7 @@ from tests.helpers import TOP
     ids=range(11),
 )
 def test_what_lies_between_equal_first_and_last_lines_is_replaced(old: bytes, new: bytes, edit: Edit) -> None:
-    assert edit_between(make_text(old), make_text(new)) == edit
+    assert edit_between(make_newline_ended_text_within_limits(old), make_newline_ended_text_within_limits(new)) == edit
 
 
 def test_the_edit_of_two_texts_makes_one_of_the_other_and_touches_no_equal_line() -> None:
@@ -65,7 +65,7 @@ def test_what_keys_take_is_what_the_page_on_settings_says() -> None:
     pattern = r"^\| `([a-z_]+)` \| ([a-z]*) *\| ([^|]*) \|"
     rows = re.findall(pattern, (TOP / "docs/SETTINGS.md").read_text(), re.M)
     assert {key: _range(unit, words) for key, unit, words in rows} == {
-        key: it.accepted_values for key, it in KEYS.items()
+        key: it.accepted_values_text for key, it in KEYS.items()
     }
 
 
@@ -85,15 +85,15 @@ def _value(word: str) -> Value:
 def test_a_key_that_goes_has_its_default_and_one_that_stays_is_not_set() -> None:
     old = (("mss", 1_000), ("nagle", False), ("sack", True))
     new = (("initial_window", "rfc5681"), ("min_rto_us", 5_000), ("nagle", False))
-    assert list(changed_settings(old, new)) == [("min_rto_us", 5_000), ("mss", 1_460)]
+    assert list(settings_changed_between(old, new)) == [("min_rto_us", 5_000), ("mss", 1_460)]
 
 
 def test_a_key_without_a_known_default_can_be_set_but_not_taken_back() -> None:
     later = (("later", 1),)
-    assert list(changed_settings((), later)) == [("later", 1)]
+    assert list(settings_changed_between((), later)) == [("later", 1)]
     assert (
-        can_switch_settings((), later)
-        and can_switch_settings(later, (("later", 2),))
-        and can_switch_settings((("mss", 9),), later)
+        has_default_for_each_dropped_setting((), later)
+        and has_default_for_each_dropped_setting(later, (("later", 2),))
+        and has_default_for_each_dropped_setting((("mss", 9),), later)
     )
-    assert not can_switch_settings(later, ())
+    assert not has_default_for_each_dropped_setting(later, ())

@@ -42,14 +42,14 @@ PLACES = [
 @pytest.mark.parametrize(("table", "key", "line"), PLACES, ids=[f"{it[0]} {it[1]}" for it in PLACES])
 def test_the_line_of_a_key(table: str, key: str, line: int | None) -> None:
     places = find_toml_places("t/pdsuite.toml", TEXT)
-    assert places.line_of(table, key) == line
-    assert places.file_and_line(table, key) == ("t/pdsuite.toml" if line is None else f"t/pdsuite.toml:{line}")
+    assert places.line_of_key_or_table(table, key) == line
+    assert places.file_and_line_of_key(table, key) == ("t/pdsuite.toml" if line is None else f"t/pdsuite.toml:{line}")
 
 
 def test_a_table_in_a_line_is_where_its_name_stands() -> None:
     places = find_toml_places("p", '"a.pkt" = {mss = 1}\n"b.pkt".mss = 2\n[[c]]\n')
     assert (
-        places.file_and_line("a.pkt", "mss"),
-        places.file_and_line("b.pkt", "mss"),
-        places.file_and_line("", "c"),
+        places.file_and_line_of_key("a.pkt", "mss"),
+        places.file_and_line_of_key("b.pkt", "mss"),
+        places.file_and_line_of_key("", "c"),
     ) == ("p:1", "p:2", "p:3")

@@ -13,18 +13,23 @@ from pdsuite.programs.batch_protocol import (
     Case,
     answer_from_status,
     batch_input,
-    parse_batch_answers,
+    parse_batch_answers_or_faults,
     split_into_batches,
-    take_length_prefixed,
+    take_whole_length_prefixed_parts,
 )
 from pdsuite.programs.program import ProgramEndedError
 from pdsuite.programs.protocol import UnexpectedAnswerError
-from pdsuite.programs.refusals import distinct_key_values, refusals_in_answer
+from pdsuite.programs.refusals import distinct_key_value_pairs, refusals_in_answer
 from pdsuite.programs.verdict import Row, Verdict
 from pdsuite.run.batches import SuiteScript
-from pdsuite.run.unproved_run import StartBatch, explained_rows, rows_and_unanswered_batches, split_into_start_batches
+from pdsuite.run.unproved_run import (
+    StartBatch,
+    parse_explained_rows_of_batch,
+    rows_and_unanswered_batches,
+    runnable_scripts_in_output_sized_batches,
+)
 from pdsuite.scripts.config import Claim
-from pdsuite.scripts.text import ScriptText, make_text
+from pdsuite.scripts.text import ScriptText, make_newline_ended_text_within_limits
 from tests.helpers import TOP, ends, is_alive, wait_for, write
 from tests.tree_fixture import Tree
 
@@ -40,18 +45,21 @@ def tree(tmp_path: Path) -> Tree:
 
 def loaded(*texts: bytes) -> list[tuple[SuiteScript, ScriptText | str]]:
     """Scripts with these texts."""
-    return [(SuiteScript(index, f"{index}.pkt", ()), make_text(text)) for index, text in enumerate(texts)]
+    return [
+        (SuiteScript(index, f"{index}.pkt", ()), make_newline_ended_text_within_limits(text))
+        for index, text in enumerate(texts)
+    ]
 
 
 def batch(*texts: bytes) -> StartBatch:
     """The one batch of scripts with these texts."""
-    (only,) = split_into_start_batches(loaded(*texts))
+    (only,) = runnable_scripts_in_output_sized_batches(loaded(*texts))
     return only
 
 
 def test_settings_are_commands_before_the_scripts() -> None:
     script = SuiteScript(0, "a.pkt", (("mss", 1000), ("nagle", False), ("initial_window", "rfc6928")))
-    (only,) = split_into_start_batches([(script, make_text(b"one\ntwo\n"))])
+    (only,) = runnable_scripts_in_output_sized_batches([(script, make_newline_ended_text_within_limits(b"one\ntwo\n"))])
     assert only.input_commands() == b"set mss 1000\nset nagle false\nset initial_window rfc6928\nadd s0 2\none\ntwo\n"
 
 
@@ -60,21 +68,23 @@ def test_a_script_that_cannot_be_read_is_in_no_batch() -> None:
         (SuiteScript(0, "a.pkt", ()), "Is a directory"),
         *loaded(b"x\n"),
     ]
-    assert [[script.path for script, _ in it.scripts] for it in split_into_start_batches(scripts)] == [["0.pkt"]]
-    assert split_into_start_batches(scripts[:1]) == []
+    assert [[script.path for script, _ in it.scripts] for it in runnable_scripts_in_output_sized_batches(scripts)] == [
+        ["0.pkt"]
+    ]
+    assert runnable_scripts_in_output_sized_batches(scripts[:1]) == []
 
 
 def test_scripts_of_which_much_may_be_told_are_in_several_batches() -> None:
     # 4,096 and 61,440 octets are expected of each: eight have just the room of a start.
     long = b"x" * 61_439 + b"\n"
-    assert [len(it.scripts) for it in split_into_start_batches(loaded(*[long] * 17))] == [8, 8, 1]
-    assert [len(it.scripts) for it in split_into_start_batches(loaded(*[b"x\n"] * 64))] == [64]
+    assert [len(it.scripts) for it in runnable_scripts_in_output_sized_batches(loaded(*[long] * 17))] == [8, 8, 1]
+    assert [len(it.scripts) for it in runnable_scripts_in_output_sized_batches(loaded(*[b"x\n"] * 64))] == [64]
 
 
 def test_rows_and_what_is_told_come_to_their_scripts() -> None:
     rows = b"s0 pass 3\ns1 fail 2 seq\n" + TOTAL % 2
     reported = b'{"name": "s1", "line": 2, "what": "other octets"}\n'
-    found = explained_rows(batch(b"one\n", b"one\ntwo\n"), ProgramAnswer(rows, reported))
+    found = parse_explained_rows_of_batch(batch(b"one\n", b"one\ntwo\n"), ProgramAnswer(rows, reported))
     cause = {"name": "s1", "line": 2, "what": "other octets"}
     assert found == {0: (Row(Verdict.PASS, 3), None), 1: (Row(Verdict.FAIL, 2, "seq"), cause)}
 
@@ -83,7 +93,7 @@ def test_what_is_told_of_another_line_or_script_is_of_none() -> None:
     rows = b"s0 fail 2 seq\n" + TOTAL % 1
     for name, line in ((b"s0", 3), (b"s1", 2)):
         reported = b'{"name": "%b", "line": %d}\n' % (name, line)
-        assert explained_rows(batch(b"one\n"), ProgramAnswer(rows, reported)) == {
+        assert parse_explained_rows_of_batch(batch(b"one\n"), ProgramAnswer(rows, reported)) == {
             0: (Row(Verdict.FAIL, 2, "seq"), None)
         }
 
@@ -91,7 +101,7 @@ def test_what_is_told_of_another_line_or_script_is_of_none() -> None:
 @pytest.mark.parametrize("rows", [b"", b"s0 pass 1\n", b"s0 pending\n" + TOTAL % 1, b"s0 pass 1\n" + TOTAL % 2])
 def test_an_answer_that_is_not_the_report_of_the_batch_is_none(rows: bytes) -> None:
     with pytest.raises(UnexpectedAnswerError):
-        explained_rows(batch(b"x\n"), ProgramAnswer(rows, b""))
+        parse_explained_rows_of_batch(batch(b"x\n"), ProgramAnswer(rows, b""))
     assert rows_and_unanswered_batches([batch(b"x\n")], [ProgramAnswer(rows, b"")])[0] == {}
 
 
@@ -103,7 +113,7 @@ def test_a_batch_without_an_answer_is_kept_with_the_reason() -> None:
 
 def test_each_setting_is_asked_once_and_each_claim_of_a_refused_one_is_told() -> None:
     claims = [Claim(place, "", key, value) for place, key, value in (("a", "mss", 0), ("b", "mss", 0), ("b", "x", 1))]
-    assert distinct_key_values(claims) == [("mss", "0"), ("x", "1")]
+    assert distinct_key_value_pairs(claims) == [("mss", "0"), ("x", "1")]
     answer = b"refused 4 BadValue\n" + TOTAL % 0 + TOTAL % 0 + TOTAL % 0
     lines = [it.refusal_line for it in refusals_in_answer(claims, answer)]
     assert [line.split(": ")[:3] for line in lines] == [["a", "mss", "BadValue"], ["b", "mss", "BadValue"]]
@@ -135,7 +145,10 @@ def test_a_run_gets_the_words_and_inputs_of_its_starts_and_answers_each() -> Non
     cases = [Case(("pdrecord", "--settings", "a = 1\nb = 2"), b"one\n"), Case(("pdregress",), b"")]
     assert batch_input(cases) == b"31\npdrecord\0--settings\0a = 1\nb = 24\none\n9\npdregress0\n"
     output = b"2\n+0" b"0\n" b"2\n0\n" b"0\n" b"9\na: 19 Out" b"2\n2\n"
-    assert parse_batch_answers(output, b"", "0", 2) == [ProgramAnswer(b"+0", b""), ProgramAnswer(b"", b"", "a: 19 Out")]
+    assert parse_batch_answers_or_faults(output, b"", "0", 2) == [
+        ProgramAnswer(b"+0", b""),
+        ProgramAnswer(b"", b"", "a: 19 Out"),
+    ]
 
 
 @pytest.mark.parametrize(
@@ -143,15 +156,15 @@ def test_a_run_gets_the_words_and_inputs_of_its_starts_and_answers_each() -> Non
     [(b"", "Faulted: a failed unwrap", "Faulted: a failed unwrap"), (b"2\n+0", "0", "ended with status 0")],
 )
 def test_a_run_without_an_answer_has_none_for_its_starts(output: bytes, status: str, why: str) -> None:
-    assert parse_batch_answers(output, b"", status, 1) == [ProgramAnswer(b"", b"", why)]
-    assert parse_batch_answers(output, b"", status, 2) == [ProgramAnswer(b"", b"", why, True)] * 2
+    assert parse_batch_answers_or_faults(output, b"", status, 1) == [ProgramAnswer(b"", b"", why)]
+    assert parse_batch_answers_or_faults(output, b"", status, 2) == [ProgramAnswer(b"", b"", why, True)] * 2
 
 
 def test_parts_are_taken_once_they_are_whole() -> None:
     octets = bytearray(b"2\nab3\nx")
-    assert (list(take_length_prefixed(octets)), octets) == ([b"ab"], b"3\nx")
+    assert (list(take_whole_length_prefixed_parts(octets)), octets) == ([b"ab"], b"3\nx")
     octets += b"yz0\n1"
-    assert (list(take_length_prefixed(octets)), octets) == ([b"xyz", b""], b"1")
+    assert (list(take_whole_length_prefixed_parts(octets)), octets) == ([b"xyz", b""], b"1")
 
 
 def test_what_is_built_stands_on_the_libraries_of_both_programs() -> None:

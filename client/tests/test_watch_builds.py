@@ -8,7 +8,7 @@ from pathlib import Path
 
 import pytest
 
-from pdsuite.scripts.text import make_text
+from pdsuite.scripts.text import make_newline_ended_text_within_limits
 from pdsuite.signals import Stop
 from pdsuite.watch.plan_changes import WantedScript
 from pdsuite.watch.turned_scripts import BaseSender, ShownScripts
@@ -186,8 +186,8 @@ def test_a_base_runs_anew_what_was_edited_since(tmp_path: Path) -> None:
     with Stop(()) as stop:
         base = BaseSender((program, None), 1, stop, print)
         for text in (SENDER, b"row fail 1 seq\n"):
-            now = ShownScripts({}, {"a.pkt": WantedScript((), make_text(text))})
-            rows += [str(it.row.whole_text) for it in base.outcomes_now(now, now).values()]
+            now = ShownScripts({}, {"a.pkt": WantedScript((), make_newline_ended_text_within_limits(text))})
+            rows += [str(it.row.whole_text_without_name) for it in base.shown_or_newly_run_outcomes(now, now).values()]
     assert rows == ["pass 7", "fail 1 seq"]
 
 

@@ -10,7 +10,7 @@ from pdsuite.output.screen import Screen
 from pdsuite.output.styled_text import StyledText
 from pdsuite.programs.program import Program
 from pdsuite.run.batches import SuiteScript
-from pdsuite.run.run_batches import load_script_text
+from pdsuite.run.run_batches import load_script_text_or_fault
 from pdsuite.scripts.config import Claim, SuiteConfig, layer_of_option
 from pdsuite.scripts.discover import find_scripts
 from pdsuite.scripts.settings import Settings, set_command_words
@@ -37,7 +37,7 @@ class Paper:
     def show(self, text: StyledText) -> None:
         self.parts.append(text.plain)
 
-    def print_note(self, line: str) -> None:
+    def print_note_on_stderr(self, line: str) -> None:
         self.notes.append(line)
 
     def keep_bottom_line(self, line: str) -> None:
@@ -62,11 +62,11 @@ class WatchFixture:
     now: float = 1_000.0
 
     def __post_init__(self) -> None:
-        self.settings_files = SettingsFiles(layer_of_option(""), refused, self.paper.print_note)
+        self.settings_files = SettingsFiles(layer_of_option(""), refused, self.paper.print_note_on_stderr)
         self.folders = Folders(
-            WatchChoice([self.top], ()), self.settings_files, self.watcher, self.stop, self.paper.print_note
+            WatchChoice([self.top], ()), self.settings_files, self.watcher, self.stop, self.paper.print_note_on_stderr
         )
-        self.fleet = LivePool(self._start, self.paper.print_note, lambda doing: None)
+        self.fleet = LivePool(self._start, self.paper.print_note_on_stderr, lambda doing: None)
         self.view = View(cast(Screen, self.paper), FakeExplainer(), True, ChangeReport())
 
     def _start(self, settings: Settings) -> Program:
@@ -95,7 +95,7 @@ class WatchFixture:
         rows = {}
         suite = SuiteConfig(layer_of_option(""))
         for found in find_scripts([self.top], (), self.stop):
-            text = load_script_text(SuiteScript(0, found.path, (), found.fault))
+            text = load_script_text_or_fault(SuiteScript(0, found.path, (), found.fault))
             place = printable_path(found.path)
             if isinstance(text, ScriptText):
                 settings = suite.settings_of_script(found)

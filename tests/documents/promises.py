@@ -10,7 +10,12 @@ from documents.pages import Page
 sys.path.insert(0, str(Path(__file__).resolve().parents[2] / "tools"))
 
 from mutant_files import read_crate_mutants  # noqa: E402
-from reading_list import LISTS, UnknownNameError, read_index, places_reached  # noqa: E402
+from reading_list import (  # noqa: E402
+    LISTS,
+    UnknownNameError,
+    contracts_and_places_they_rest_on,
+    read_index_of_names_in_all_crates,
+)
 
 FUNCTION = re.compile(r"`(\w+::\w+)`")
 MUTANTS = re.compile(r"\bMutants? (?:in )?(.*)$", re.MULTILINE)
@@ -19,7 +24,7 @@ NAME = re.compile(r"`([\w-]+)`")
 
 def unknown_functions(page: Page) -> Iterator[str]:
     """A line for each function that the page names and no crate has."""
-    known = {name for _, name in read_index()}
+    known = {name for _, name in read_index_of_names_in_all_crates()}
     for name in sorted(set(FUNCTION.findall(page.text)) - known):
         yield f"{page.name}: {name}: there is no such public function"
 
@@ -38,9 +43,9 @@ def wrong_mutants(page: Page, files: list[Path]) -> Iterator[str]:
 
 def broken_reading_lists() -> Iterator[str]:
     """A line for each reading list whose functions or clauses aren't there."""
-    index = read_index()
+    index = read_index_of_names_in_all_crates()
     for name, functions in LISTS.items():
         try:
-            places_reached(index, list(functions))
+            contracts_and_places_they_rest_on(index, list(functions))
         except UnknownNameError as unknown:
             yield f"{name}: {unknown}"

@@ -10,7 +10,7 @@ from model.rules import Rules
 from model.sender import Segment, Sender, Start
 from model.spans import Span
 from pdsuite.packetdrill.items import SECOND, Call, Item, Packet
-from pdsuite.packetdrill.reader import read_items
+from pdsuite.packetdrill.reader import parse_items_until_syntax_error
 
 TOLERANCE = 4_000
 NO_MSS = 536
@@ -137,7 +137,7 @@ def fault_of(path: Path) -> str:
     for table in reversed(list(settings_tables_for(path))):
         settings |= table
     player = Player(settings)
-    for item in _events(read_items(path.read_text()).items):
+    for item in _events(parse_items_until_syntax_error(path.read_text()).items):
         if fault := player.play(item):
             return f"{path}:{item.line}: {fault}"
     return ""

@@ -7,7 +7,7 @@ from collections.abc import Iterator
 from dataclasses import dataclass
 
 from pdsuite.packetdrill.items import SECOND, Call, Code, Command, HeaderOption, Item, Packet, Time
-from pdsuite.packetdrill.reader import read_items
+from pdsuite.packetdrill.reader import parse_items_until_syntax_error
 from pdsuite.packetdrill.tokens import line_number_at
 
 NOT_RUN = frozenset("UEWC")
@@ -57,7 +57,7 @@ def read_script(text: str) -> tuple[TimedEvent, ...]:
     >>> read_script("0 listen(3, 1) = -1 EINVAL")[0].action
     Call(name='listen', arguments=('3', '1'), result=-1, error='EINVAL')
     """
-    reading = read_items(text)
+    reading = parse_items_until_syntax_error(text)
     events = tuple(runnable_events(reading.items))
     if (fault := reading.fault) is not None:
         reason = f"{fault.words}: {fault.what}" if fault.what else fault.words
@@ -88,6 +88,6 @@ def runnable_event(item: Item, action: Packet | Call) -> TimedEvent:
         raise UnsupportedScript(item.line, "a blocking call isn't run")
     if isinstance(action, Packet) and not NOT_RUN.isdisjoint(action.flags):
         raise UnsupportedScript(item.line, "the flags U, E, W and C aren't run")
-    if not event.is_kernel_packet and not event.time.is_fixed:
+    if not event.is_kernel_packet and not event.time.is_single_moment:
         raise UnsupportedScript(item.line, "what is done needs one moment")
     return event

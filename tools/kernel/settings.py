@@ -81,7 +81,7 @@ def refuse_old_names(claims: Iterable[Claim]) -> None:
 
 def claims_of_table(places: TomlPlaces, table: Mapping[str, Any], name: str = "") -> Iterator[Claim]:
     """The keys of a table with their places."""
-    return (Claim(places.file_and_line(name, key), name, key, value) for key, value in table.items())
+    return (Claim(places.file_and_line_of_key(name, key), name, key, value) for key, value in table.items())
 
 
 def set_comments_in(text: str) -> Iterator[tuple[int, str, Any]]:

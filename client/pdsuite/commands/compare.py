@@ -7,24 +7,29 @@ from pathlib import Path
 from tempfile import TemporaryDirectory
 from typing import TYPE_CHECKING
 
-from pdsuite.commands.options import thread_count
-from pdsuite.compare.affected import Affected, RowStarts, find_affected, load_row_starts
+from pdsuite.commands.options import thread_count_or_one_per_processor
+from pdsuite.compare.affected import (
+    Affected,
+    RowStarts,
+    find_affected_rows_and_paragraphs,
+    query_test_row_starts_of_sender,
+)
 from pdsuite.compare.built_senders import build_missing_programs
 from pdsuite.compare.comparison import ComparedScript, SenderResults, compare_results
 from pdsuite.compare.quantities import Quantity
 from pdsuite.compare.senders import Sender, current_sender, last_proved_sender, resolve_sender
-from pdsuite.compare.sides import Side, SideSettingsError, make_side
+from pdsuite.compare.sides import Side, SideSettingsError, make_side_named_with_settings
 from pdsuite.compare.two_senders import ComparisonTask, run_both_senders
-from pdsuite.output.fitting import fit_to_columns, usable_columns
-from pdsuite.output.screen import Screen, print_error
+from pdsuite.output.fitting import wrap_prose_in_styled_text, columns_without_autowrap
+from pdsuite.output.screen import Screen, print_line_on_stderr
 from pdsuite.output.styled_text import StyledText
 from pdsuite.programs.lookup import SenderGuard
 from pdsuite.programs.verdict import Verdict
 from pdsuite.reports.comparison import ComparisonReport, comparison_json, plain_comparison
-from pdsuite.reports.comparison_markdown import as_markdown
-from pdsuite.run.collect import find_selected_scripts, make_scripts
+from pdsuite.reports.comparison_markdown import whole_comparison_as_markdown
+from pdsuite.run.collect import find_selected_scripts_and_read_configs, suite_scripts_with_config
 from pdsuite.scripts.config import BASE_OPTION, WITH_OPTION, SuiteConfig, layer_of_option
-from pdsuite.scripts.unused_tables import unused_table_lines_under
+from pdsuite.scripts.unused_tables import unused_table_warning_lines_under_paths
 from pdsuite.signals import Stop, StoppedError
 
 if TYPE_CHECKING:
@@ -61,79 +66,95 @@ def compare_senders(options: CompareOptions, screen: Screen) -> int:
     try:
         with Stop() as stop, TemporaryDirectory(prefix="pdsuite-") as room:
             if options.search is not None:
-                return _search_difference(options, options.search, Path(room), stop, screen)
-            scripts = make_scripts(find_selected_scripts(options.paths, options.only, suite, stop), suite)
-            if lines := unused_table_lines_under(suite, options.paths):
-                return _print_refusals(lines)
-            page = None if options.html is None else _make_page(options.html)
-            sides = _make_sides(options, Path(room))
+                return _search_input_where_senders_differ(options, options.search, Path(room), stop, screen)
+            scripts = suite_scripts_with_config(
+                find_selected_scripts_and_read_configs(options.paths, options.only, suite, stop), suite
+            )
+            if lines := unused_table_warning_lines_under_paths(suite, options.paths):
+                return _print_errors_always_returning_fault(lines)
+            page = None if options.html is None else _comparison_page_in_folder(options.html)
+            sides = _before_and_after_sides_of_options(options, Path(room))
             senders = (sides[0].sender, sides[1].sender)
-            _print_senders(senders, screen)
-            records = all(it.can_record for it in senders)
-            row_starts = load_row_starts(senders[1], Path(room)) if options.affected else None
+            _print_senders_and_missing_recorders(senders, screen)
+            records = all(it.has_recorder_or_is_unbuilt for it in senders)
+            row_starts = query_test_row_starts_of_sender(senders[1], Path(room)) if options.affected else None
             task = ComparisonTask(scripts, list(suite.all_claims()), records, row_starts)
             steady = SenderGuard(*(it.program_lookup for it in senders))
             built = zip(sides, build_missing_programs(senders, "any", stop, screen))
             results = run_both_senders(
-                [replace(side, sender=it) for side, it in built], task, thread_count(None), stop, screen.print_note
+                [replace(side, sender=it) for side, it in built],
+                task,
+                thread_count_or_one_per_processor(None),
+                stop,
+                screen.print_note_on_stderr,
             )
             steady.require_unchanged("compare again")
-            affected = None if row_starts is None else _find_change_effects(row_starts, senders[0], results, Path(room))
-            return _report_comparison(senders, results, (page, affected), options, screen, begin)
+            affected = (
+                None
+                if row_starts is None
+                else _find_affected_rows_and_paragraphs(row_starts, senders[0], results, Path(room))
+            )
+            return _report_comparison_returning_exit_status(senders, results, (page, affected), options, screen, begin)
     except SideSettingsError as refused:
-        return _print_refusals(refused.lines)
+        return _print_errors_always_returning_fault(refused.lines)
     except StoppedError as stopped:
         return stopped.status
 
 
-def _search_difference(options: CompareOptions, search: "SearchOptions", room: Path, stop: Stop, screen: Screen) -> int:
+def _search_input_where_senders_differ(
+    options: CompareOptions, search: "SearchOptions", room: Path, stop: Stop, screen: Screen
+) -> int:
     """Searches for inputs that tell the senders apart."""
     # Only who searches pays for what makes inputs.
     from pdsuite.commands.search import search_difference
 
-    sides = _make_sides(options, room)
-    _print_senders((sides[0].sender, sides[1].sender), screen)
-    before, after = (it.sender.find_or_check_out_sources(room / f"sources of {it.option.place}") for it in sides)
+    sides = _before_and_after_sides_of_options(options, room)
+    _print_senders_and_missing_recorders((sides[0].sender, sides[1].sender), screen)
+    before, after = (
+        it.sender.find_or_check_out_sources(room / f"sources of {it.option.file_or_option_name}") for it in sides
+    )
     return search_difference(sides, layer_of_option(options.settings), (before, after), search, stop, screen)
 
 
-def _print_refusals(lines: Sequence[str]) -> int:
+def _print_errors_always_returning_fault(lines: Sequence[str]) -> int:
     for line in lines:
-        print_error(line)
+        print_line_on_stderr(line)
     return _FAULT
 
 
-def _make_sides(options: CompareOptions, room: Path) -> tuple[Side, Side]:
+def _before_and_after_sides_of_options(options: CompareOptions, room: Path) -> tuple[Side, Side]:
     """The sender before the change, and the one after it; what is checked out goes into a folder."""
     before = last_proved_sender() if options.base is None else resolve_sender(options.base, "--base", room / "before")
     after = current_sender() if options.other is None else resolve_sender(options.other, "--with", room / "after")
-    return make_side(before, options.base_settings, BASE_OPTION), make_side(after, options.with_settings, WITH_OPTION)
+    return make_side_named_with_settings(before, options.base_settings, BASE_OPTION), make_side_named_with_settings(
+        after, options.with_settings, WITH_OPTION
+    )
 
 
-def _print_senders(senders: tuple[Sender, Sender], screen: Screen) -> None:
+def _print_senders_and_missing_recorders(senders: tuple[Sender, Sender], screen: Screen) -> None:
     """Says what is compared, and what can't be."""
     before, after = senders
-    screen.print_note(f"pdsuite: before: {before}; after: {after}")
-    for name in dict.fromkeys(str(it) for it in senders if not it.can_record):
-        screen.print_note(f"pdsuite: {name} has no pdrecord: scripts whose row stays aren't compared")
+    screen.print_note_on_stderr(f"pdsuite: before: {before}; after: {after}")
+    for name in dict.fromkeys(str(it) for it in senders if not it.has_recorder_or_is_unbuilt):
+        screen.print_note_on_stderr(f"pdsuite: {name} has no pdrecord: scripts whose row stays aren't compared")
 
 
-def _make_page(folder: Path) -> "ComparisonPage":
+def _comparison_page_in_folder(folder: Path) -> "ComparisonPage":
     # Only who requests a page pays for what draws it.
     from pdsuite.page.comparison import ComparisonPage
 
     return ComparisonPage(folder)
 
 
-def _find_change_effects(
+def _find_affected_rows_and_paragraphs(
     row_starts: RowStarts, before: Sender, results: Sequence[SenderResults], room: Path
 ) -> Affected:
     """What the change affects in the tree of the sender after it."""
     sources = before.find_or_check_out_sources(room / "sources")
-    return find_affected(row_starts, [it.outputs for it in results], sources, room)
+    return find_affected_rows_and_paragraphs(row_starts, [it.outputs for it in results], sources, room)
 
 
-def _report_comparison(
+def _report_comparison_returning_exit_status(
     senders: tuple[Sender, Sender],
     results: Sequence[SenderResults],
     more: "tuple[ComparisonPage | None, Affected | None]",
@@ -148,26 +169,34 @@ def _report_comparison(
     is_unproved = not all(it.is_proved for it in senders)
     names = (str(senders[0]), str(senders[1]))
     if page is not None:
-        page.write_page(compared, (before, after), names, is_unproved)
+        page.write_page_and_remove_stale(compared, (before, after), names, is_unproved)
     seconds = time.monotonic() - begin
     report = ComparisonReport(compared, affected, seconds, is_unproved, Quantity(options.sort), options.every)
     if options.is_markdown:
-        screen.show(as_markdown(report, names))
+        screen.show(whole_comparison_as_markdown(report, names))
     else:
         screen.show(
-            comparison_json(report, names) if options.is_json else _fit_to_terminal(plain_comparison(report), screen)
+            comparison_json(report, names)
+            if options.is_json
+            else _wrap_prose_to_terminal(plain_comparison(report), screen)
         )
-    return _exit_status(compared, affected)
+    return _exit_status_of_errors_and_differences(compared, affected)
 
 
-def _fit_to_terminal(text: StyledText, screen: Screen) -> StyledText:
+def _wrap_prose_to_terminal(text: StyledText, screen: Screen) -> StyledText:
     """A text in lines that fit, where there is a terminal."""
-    return text if screen.width is None else fit_to_columns(text, usable_columns(screen.width))
+    return (
+        text
+        if screen.terminal_columns_if_any is None
+        else wrap_prose_in_styled_text(text, columns_without_autowrap(screen.terminal_columns_if_any))
+    )
 
 
-def _exit_status(compared: Sequence[ComparedScript], affected: Affected | None) -> int:
+def _exit_status_of_errors_and_differences(compared: Sequence[ComparedScript], affected: Affected | None) -> int:
     if any(Verdict.ERROR in (it.before.row.verdict, it.after.row.verdict) for it in compared):
         return _FAULT
     return (
-        1 if any(it.differs for it in compared) or affected is not None and affected.has_affected_or_unheard_rows else 0
+        1
+        if any(it.differs for it in compared) or affected is not None and affected.has_affected_or_unanswered_rows
+        else 0
     )

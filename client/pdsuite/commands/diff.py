@@ -10,7 +10,7 @@ from pdsuite.output.octets import printable_path
 from pdsuite.output.screen import Screen
 from pdsuite.output.styled_text import StyledText, unstyled_text
 from pdsuite.reports.report_cache import newest_report_covering
-from pdsuite.reports.row_changes import RowChange, RowChangeKind, row_changes
+from pdsuite.reports.row_changes import RowChange, RowChangeKind, row_changes_sorted_by_kind
 from pdsuite.reports.saved_reports import SavedReport, read_reports_as_one
 
 _STYLES = {RowChangeKind.AGAIN: "green", RowChangeKind.NEW: "", RowChangeKind.GONE: "dim", RowChangeKind.NOT_RUN: "dim"}
@@ -23,15 +23,15 @@ def diff_reports(old: Path, new: Sequence[Path], screen: Screen) -> int:
     if new:
         now = read_reports_as_one(new)
     else:
-        before, now = _with_last_report(before)
-    _refuse_incomparable(before, now)
-    turned = row_changes(before.rows, now.rows)
+        before, now = _pair_with_newest_covering_report(before)
+    _require_same_shards_and_common_scripts(before, now)
+    turned = row_changes_sorted_by_kind(before.rows, now.rows)
     same = len({**before.rows, **now.rows}) - len(turned)
-    screen.show(_changes_text(turned, same))
+    screen.show(_render_row_changes_and_total(turned, same))
     return 1 if any(it.is_worse for it in turned) else 0
 
 
-def _with_last_report(before: SavedReport) -> tuple[SavedReport, SavedReport]:
+def _pair_with_newest_covering_report(before: SavedReport) -> tuple[SavedReport, SavedReport]:
     """A report, and the last one that was kept of its scripts, with paths from the working folder in both."""
     here = printable_path(os.getcwd()).rstrip("/") + "/"
     whole = {os.path.normpath(os.path.join(here, path)): it for path, it in before.rows.items()}
@@ -44,7 +44,7 @@ def _with_last_report(before: SavedReport) -> tuple[SavedReport, SavedReport]:
     )
 
 
-def _refuse_incomparable(before: SavedReport, now: SavedReport) -> None:
+def _require_same_shards_and_common_scripts(before: SavedReport, now: SavedReport) -> None:
     """Raises a fault where two reports can't be compared."""
     if before.shards != now.shards:
         for report in (before, now):
@@ -54,7 +54,7 @@ def _refuse_incomparable(before: SavedReport, now: SavedReport) -> None:
         raise Fault(f"{before.place} and {now.place} have no script in common: paths count as they stand there")
 
 
-def _changes_text(turned: Iterable[RowChange], same: int) -> StyledText:
+def _render_row_changes_and_total(turned: Iterable[RowChange], same: int) -> StyledText:
     text = StyledText()
     counts: Counter[RowChangeKind] = Counter()
     for it in turned:
@@ -73,5 +73,5 @@ def _change_line(it: RowChange) -> StyledText:
     if row is not None and it.kind is not RowChangeKind.NOT_RUN:
         line.append(f": {'known: ' if it.now is not None and it.now.is_known else ''}{row}")
     if it.before is not None and it.kind is not RowChangeKind.NEW:
-        line.append(f", was {it.before.row.whole_text}")
+        line.append(f", was {it.before.row.whole_text_without_name}")
     return line.append("\n")

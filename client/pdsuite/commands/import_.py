@@ -10,16 +10,26 @@ from pdsuite.files import require_new_or_empty_folder, write_folder_atomically
 from pdsuite.imports.as_json import as_json
 from pdsuite.imports.conversion import ImportSource, Imported, NotImported, convert_script
 from pdsuite.imports.findings import Reason
-from pdsuite.imports.listing import Listed, exit_status, report_lines_of, summary_lines
-from pdsuite.imports.tables import is_toml_key, settings_files_of
+from pdsuite.imports.listing import (
+    Listed,
+    exit_status_by_errors_and_not_imported,
+    import_result_lines_of_script,
+    summary_lines,
+)
+from pdsuite.imports.tables import is_encodable_as_toml_key, settings_files_of
 from pdsuite.output.octets import printable_path
 from pdsuite.output.screen import Screen
 from pdsuite.output.styled_text import unstyled_text
 from pdsuite.scripts.config import SuiteConfig, layer_of_option, old_name_refusals
 from pdsuite.scripts.discover import SUFFIX, ScriptFile, find_scripts
 from pdsuite.scripts.settings import set_command_words
-from pdsuite.scripts.text import LONGEST_FILE, UnfitTextError, make_text, read_regular_file
-from pdsuite.scripts.unused_tables import unused_table_lines_under
+from pdsuite.scripts.text import (
+    LONGEST_FILE,
+    UnfitTextError,
+    make_newline_ended_text_within_limits,
+    read_regular_file_up_to_limit,
+)
+from pdsuite.scripts.unused_tables import unused_table_warning_lines_under_paths
 from pdsuite.signals import Stop
 
 _NO_WORD = "?"
@@ -39,47 +49,49 @@ def import_scripts(source: Path, target: Path, keep_packets: bool, is_json: bool
         found = find_scripts([source], (), stop)
         if not found:
             raise Fault("no script found")
-        scripts = list(_import_each(found, suite, keep_packets, stop))
-        _refuse_bad_settings(suite, source)
+        scripts = list(_read_and_convert_each_script(found, suite, keep_packets, stop))
+        _refuse_unused_tables_and_bad_settings(suite, source)
         if any(isinstance(it.came, Imported) for it in scripts):
             write_folder_atomically(place, _files_to_write(source.parent if is_script else source, scripts, stop))
     screen.show(unstyled_text(as_json(scripts) if is_json else _listing_text(scripts)))
-    return exit_status(scripts)
+    return exit_status_by_errors_and_not_imported(scripts)
 
 
 def _listing_text(scripts: Sequence[Listed]) -> str:
     """What people see."""
-    lines = [line for it in scripts for line in report_lines_of(it)]
+    lines = [line for it in scripts for line in import_result_lines_of_script(it)]
     return "".join(f"{line}\n" for line in [*lines, *summary_lines(scripts)])
 
 
-def _import_each(found: Sequence[ScriptFile], suite: SuiteConfig, keep_packets: bool, stop: Stop) -> Iterator[Listed]:
+def _read_and_convert_each_script(
+    found: Sequence[ScriptFile], suite: SuiteConfig, keep_packets: bool, stop: Stop
+) -> Iterator[Listed]:
     for it in found:
         stop.raise_if_stopped()
-        yield Listed(it.path, it.fault or _import_script(it, suite, keep_packets))
+        yield Listed(it.path, it.fault or _read_and_convert_script(it, suite, keep_packets))
 
 
-def _import_script(found: ScriptFile, suite: SuiteConfig, keep_packets: bool) -> Imported | NotImported | str:
+def _read_and_convert_script(found: ScriptFile, suite: SuiteConfig, keep_packets: bool) -> Imported | NotImported | str:
     """What comes of a script; or why it can't be read."""
     try:
-        octets = read_regular_file(found.path, LONGEST_FILE + 1)
+        octets = read_regular_file_up_to_limit(found.path, LONGEST_FILE + 1)
     except UnfitTextError as unfit:
         return str(unfit)
-    own = dict(suite.settings_of_script(found)) if suite.has_config_file(found) else None
+    own = dict(suite.settings_of_script(found)) if suite.has_config_file_in_or_above_folder(found) else None
     try:
-        make_text(octets)
+        make_newline_ended_text_within_limits(octets)
     except UnfitTextError as unfit:
         return NotImported((Reason(1, str(unfit)),))
-    source = ImportSource(_decode_losslessly(octets), own, lambda path: _load_setup_file(found.path, path))
+    source = ImportSource(_decode_losslessly(octets), own, lambda path: _text_of_setup_command_file(found.path, path))
     came = convert_script(source, keep_packets)
-    if isinstance(came, Imported) and came.settings and not is_toml_key(os.path.basename(found.path)):
+    if isinstance(came, Imported) and came.settings and not is_encodable_as_toml_key(os.path.basename(found.path)):
         return NotImported((Reason(1, "a name that isn't UTF-8, which no pdsuite.toml can have"),))
     return came
 
 
-def _load_setup_file(script: str, path: str) -> str:
+def _text_of_setup_command_file(script: str, path: str) -> str:
     """A file with commands of set-up, by its path from the folder of a script."""
-    return _decode_losslessly(read_regular_file(os.path.join(os.path.dirname(script), path), LONGEST_FILE))
+    return _decode_losslessly(read_regular_file_up_to_limit(os.path.join(os.path.dirname(script), path), LONGEST_FILE))
 
 
 def _decode_losslessly(octets: bytes) -> str:
@@ -87,9 +99,9 @@ def _decode_losslessly(octets: bytes) -> str:
     return octets.decode("utf-8", "surrogateescape")
 
 
-def _refuse_bad_settings(suite: SuiteConfig, source: Path) -> None:
+def _refuse_unused_tables_and_bad_settings(suite: SuiteConfig, source: Path) -> None:
     """Refuses settings of a pdsuite.toml that no run could be given, or no script has."""
-    for line in [*unused_table_lines_under(suite, [source]), *old_name_refusals(suite.all_claims())]:
+    for line in [*unused_table_warning_lines_under_paths(suite, [source]), *old_name_refusals(suite.all_claims())]:
         raise PlacedFault(line)
     for claim in suite.all_claims():
         if _NO_WORD in set_command_words(claim.key, claim.value):

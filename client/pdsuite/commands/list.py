@@ -5,19 +5,19 @@ from pathlib import Path
 
 
 from pdsuite.output.octets import printable_path, printable_text
-from pdsuite.output.screen import Screen, print_error
+from pdsuite.output.screen import Screen, print_line_on_stderr
 from pdsuite.output.styled_text import unstyled_text
 from pdsuite.reports.last_run import scripts_failed_last
 from pdsuite.run.batches import SuiteScript
-from pdsuite.run.collect import Selection, find_selected_scripts, make_scripts
+from pdsuite.run.collect import Selection, find_selected_scripts_and_read_configs, suite_scripts_with_config
 from pdsuite.scripts.config import SuiteConfig, layer_of_option, old_name_refusals
 from pdsuite.scripts.settings import Settings, value_as_toml
 from pdsuite.scripts.shards import Shard
-from pdsuite.scripts.unused_tables import unused_table_lines_under
+from pdsuite.scripts.unused_tables import unused_table_warning_lines_under_paths
 from pdsuite.signals import Stop
 
 
-def list_scripts(
+def list_script_paths_and_settings(
     paths: Sequence[Path],
     only: Sequence[str],
     shard: Shard | None,
@@ -29,18 +29,20 @@ def list_scripts(
     with Stop() as stop:
         part = Selection(shard, scripts_failed_last(paths) if last_failed else None)
         suite = SuiteConfig(layer_of_option(settings))
-        scripts = make_scripts(find_selected_scripts(paths, only, suite, stop, part), suite)
-        if lines := [*unused_table_lines_under(suite, paths), *old_name_refusals(suite.all_claims())]:
+        scripts = suite_scripts_with_config(
+            find_selected_scripts_and_read_configs(paths, only, suite, stop, part), suite
+        )
+        if lines := [*unused_table_warning_lines_under_paths(suite, paths), *old_name_refusals(suite.all_claims())]:
             for line in lines:
-                print_error(line)
+                print_line_on_stderr(line)
             return 2
         if not scripts:
-            screen.print_note(f"pdsuite: {part.empty_message()}")
-        screen.show(unstyled_text("".join(f"{_script_line(script)}\n" for script in scripts)))
+            screen.print_note_on_stderr(f"pdsuite: {part.empty_message()}")
+        screen.show(unstyled_text("".join(f"{_path_and_settings_or_error_line(script)}\n" for script in scripts)))
     return 2 if any(script.fault for script in scripts) else 0
 
 
-def _script_line(script: SuiteScript) -> str:
+def _path_and_settings_or_error_line(script: SuiteScript) -> str:
     path = printable_path(script.path)
     if script.fault:
         return f"{path}: error: {script.fault}"

@@ -8,21 +8,27 @@ from tempfile import TemporaryDirectory
 
 from pdsuite.compare.built_senders import build_missing_programs
 from pdsuite.compare.senders import current_sender, last_proved_sender, resolve_sender
-from pdsuite.compare.sides import Side, SideSettingsError, make_side, refuse_commonly_lacked_keys, report_lacking_keys
+from pdsuite.compare.sides import (
+    Side,
+    SideSettingsError,
+    make_side_named_with_settings,
+    refuse_commonly_lacked_keys,
+    note_renamed_and_lacking_keys,
+)
 from pdsuite.faults import Fault
-from pdsuite.measure.measurement import MeasureResult, Measurement, cases_of_paths, program_of
+from pdsuite.measure.measurement import MeasureResult, Measurement, cases_of_paths, program_path_of_side
 from pdsuite.measure.page import MeasurePage
-from pdsuite.measure.paths import load_paths
+from pdsuite.measure.paths import load_network_paths_matching
 from pdsuite.measure.report import MeasureReport, as_json, plain_report, total_lines
-from pdsuite.measure.statistics import figure_tables_of
+from pdsuite.measure.statistics import figure_tables_with_holm_verdicts
 from pdsuite.measure.transfer_folder import TransferFolder
-from pdsuite.output.fitting import usable_columns
-from pdsuite.output.screen import Screen, print_error
+from pdsuite.output.fitting import columns_without_autowrap
+from pdsuite.output.screen import Screen, print_line_on_stderr
 from pdsuite.programs.locate import REGRESS
 from pdsuite.programs.lookup import SenderGuard
 from pdsuite.programs.program import Program
-from pdsuite.programs.refusals import find_refusals
-from pdsuite.scripts.config import BASE_OPTION, WITH_OPTION, Claim, Layer, claims_of_layers, layer_of_option
+from pdsuite.programs.refusals import query_refused_settings_retrying_once
+from pdsuite.scripts.config import BASE_OPTION, WITH_OPTION, Claim, Layer, every_claim_of_layers, layer_of_option
 from pdsuite.scripts.settings import Settings, sorted_settings
 from pdsuite.signals import Stop, StoppedError
 
@@ -48,69 +54,83 @@ class MeasureOptions:
     save: Path | None = None
 
 
-def measure_senders(options: MeasureOptions, screen: Screen) -> int:
+def measure_transfers_of_two_senders(options: MeasureOptions, screen: Screen) -> int:
     """Measures two senders, and answers the exit status: 2 where transfers came to no end."""
     begin = time.monotonic()
-    cases = cases_of_paths(load_paths(options.paths, options.only), options.runs)
+    cases = cases_of_paths(load_network_paths_matching(options.paths, options.only), options.runs)
     try:
         with Stop() as stop, TemporaryDirectory(prefix="pdsuite-") as room:
-            named = _make_sides(options, Path(room))
-            screen.print_note(f"pdsuite: before: {named[0].sender}; after: {named[1].sender}")
+            named = _before_and_after_sides_of_options(options, Path(room))
+            screen.print_note_on_stderr(f"pdsuite: before: {named[0].sender}; after: {named[1].sender}")
             steady = SenderGuard(*(it.sender.program_lookup for it in named))
-            sides = _with_built_programs(named, layer_of_option(options.settings), stop, screen)
+            sides = _build_programs_and_adapt_keys(named, layer_of_option(options.settings), stop, screen)
             common = sorted_settings(layer_of_option(options.settings).keys)
             keeping = _MeasureOutputs(options, sides, common)
             measuring = Measurement(cases, sides, common, options.seed)
             measured = measuring.run(stop, lambda done, count: screen.show_progress(done, count, "transfers"))
             screen.clear_live_lines()
             steady.require_unchanged(_AGAIN)
-            report = _make_report(measured, named, options.seed, time.monotonic() - begin)
-            columns = None if screen.width is None else usable_columns(screen.width)
+            report = _transfer_figures_report(measured, named, options.seed, time.monotonic() - begin)
+            columns = (
+                None
+                if screen.terminal_columns_if_any is None
+                else columns_without_autowrap(screen.terminal_columns_if_any)
+            )
             screen.show(as_json(report) if options.is_json else plain_report(report, columns))
             if measured.status is not None:
                 # The signal was heeded; the next one ends the process at once.
                 with Stop(()) as unheeded:
-                    keeping.write_page_and_scripts(report, unheeded)
+                    keeping.write_page_and_transfer_scripts(report, unheeded)
                 return measured.status
-            keeping.write_page_and_scripts(report, stop)
+            keeping.write_page_and_transfer_scripts(report, stop)
             return _FAULT if any(it.unfinished for it in measured.cases) else 0
     except SideSettingsError as refused:
         for line in refused.lines:
-            print_error(line)
+            print_line_on_stderr(line)
         return _FAULT
     except StoppedError as stopped:
         return stopped.status
 
 
-def _make_sides(options: MeasureOptions, room: Path) -> tuple[Side, Side]:
+def _before_and_after_sides_of_options(options: MeasureOptions, room: Path) -> tuple[Side, Side]:
     """The sender before the change, and the one after it; what is checked out goes into a folder."""
     before = last_proved_sender() if options.base is None else resolve_sender(options.base, "--base", room / "before")
     after = current_sender() if options.other is None else resolve_sender(options.other, "--with", room / "after")
-    return make_side(before, options.base_settings, BASE_OPTION), make_side(after, options.with_settings, WITH_OPTION)
+    return make_side_named_with_settings(before, options.base_settings, BASE_OPTION), make_side_named_with_settings(
+        after, options.with_settings, WITH_OPTION
+    )
 
 
-def _with_built_programs(named: tuple[Side, Side], common: Layer, stop: Stop, screen: Screen) -> tuple[Side, Side]:
+def _build_programs_and_adapt_keys(
+    named: tuple[Side, Side], common: Layer, stop: Stop, screen: Screen
+) -> tuple[Side, Side]:
     """The sides with programs, without keys that these lack."""
     built = build_missing_programs([it.sender for it in named], "optimised", stop, screen)
     if lacking := [it for it in built if not it.has_programs]:
         raise Fault(f"{lacking[0]}: no program of it can be built and kept here, and measuring needs one")
-    claims = list(claims_of_layers([common]))
-    sides = [_adapt_to_sender(replace(side, sender=it), claims, stop) for side, it in zip(named, built)]
+    claims = list(every_claim_of_layers([common]))
+    sides = [
+        _side_with_keys_that_sender_accepts(replace(side, sender=it), claims, stop) for side, it in zip(named, built)
+    ]
     refuse_commonly_lacked_keys(sides, claims)
-    report_lacking_keys(sides, screen.print_note)
+    note_renamed_and_lacking_keys(sides, screen.print_note_on_stderr)
     return sides[0], sides[1]
 
 
-def _adapt_to_sender(side: Side, claims: Sequence[Claim], stop: Stop) -> Side:
+def _side_with_keys_that_sender_accepts(side: Side, claims: Sequence[Claim], stop: Stop) -> Side:
     """A side without the keys that its sender lacks."""
-    program = program_of(side, REGRESS)
-    return side.adapt_to_sender(claims, lambda each: find_refusals(each, lambda: Program([program], stop)))
+    program = program_path_of_side(side, REGRESS)
+    return side.with_keys_that_sender_accepts(
+        claims, lambda each: query_refused_settings_retrying_once(each, lambda: Program([program], stop))
+    )
 
 
-def _make_report(measured: MeasureResult, sides: tuple[Side, Side], seed: int, seconds: float) -> MeasureReport:
+def _transfer_figures_report(
+    measured: MeasureResult, sides: tuple[Side, Side], seed: int, seconds: float
+) -> MeasureReport:
     """The report of what was measured."""
     return MeasureReport(
-        figure_tables_of(measured.cases),
+        figure_tables_with_holm_verdicts(measured.cases),
         (str(sides[0].sender), str(sides[1].sender)),
         seed,
         measured.transfer_count,
@@ -129,8 +149,8 @@ class _MeasureOutputs:
         self._page = None if options.html is None else MeasurePage(options.html, sides, common)
         self._kept = None if options.save is None else TransferFolder(options.save, sides)
 
-    def write_page_and_scripts(self, report: MeasureReport, stop: Stop) -> None:
+    def write_page_and_transfer_scripts(self, report: MeasureReport, stop: Stop) -> None:
         if self._kept is not None:
             self._kept.write_all_transfers([it.measured for it in report.tables], self._common, stop)
         if self._page is not None:
-            self._page.write_page(report, total_lines(report), stop)
+            self._page.write_page_and_remove_stale(report, total_lines(report), stop)

@@ -9,7 +9,7 @@ import click
 
 from pdsuite.output.octets import printable_text
 from pdsuite.page.diagram_choice import MOST
-from pdsuite.scripts.shards import Shard, parse_shard
+from pdsuite.scripts.shards import Shard, parse_shard_if_valid
 
 MOST_WORKERS = 64
 MOST_SECONDS = 86_400
@@ -33,7 +33,7 @@ class ShardParam(click.ParamType):
     name = "shard"
 
     def convert(self, value: str | Shard, param: click.Parameter | None, ctx: click.Context | None) -> Shard:
-        shard = value if isinstance(value, Shard) else parse_shard(value)
+        shard = value if isinstance(value, Shard) else parse_shard_if_valid(value)
         if shard is None:
             self.fail(f"{printable_text(str(value))} is no K/N, with K from 1 to N.", param, ctx)
         return shard
@@ -55,17 +55,17 @@ class ReasonParam(click.ParamType):
 no_color_option = click.option("--no-color", is_flag=True, help="No colours on a terminal.")
 
 
-def script_options(command: CommandFunction) -> CommandFunction:
+def required_paths_and_script_options(command: CommandFunction) -> CommandFunction:
     """The words that say which scripts are meant, and with which settings."""
-    return _add_script_options(command, is_required=True)
+    return _add_paths_and_script_options(command, is_required=True)
 
 
-def optional_script_options(command: CommandFunction) -> CommandFunction:
+def optional_paths_and_script_options(command: CommandFunction) -> CommandFunction:
     """The same words, where no script may be meant."""
-    return _add_script_options(command, is_required=False)
+    return _add_paths_and_script_options(command, is_required=False)
 
 
-def _add_script_options(command: CommandFunction, is_required: bool) -> CommandFunction:
+def _add_paths_and_script_options(command: CommandFunction, is_required: bool) -> CommandFunction:
     for option in (
         no_color_option,
         click.option("--settings", default="", metavar="TEXT", help="Settings before all others."),
@@ -78,7 +78,7 @@ def _add_script_options(command: CommandFunction, is_required: bool) -> CommandF
     return command
 
 
-def search_options(command: CommandFunction) -> CommandFunction:
+def save_and_seed_options(command: CommandFunction) -> CommandFunction:
     """The words that say how a search goes, and where its find is saved."""
     for option in (
         click.option("--save", metavar="FILE", type=PathParam(), help="Save what is found as this script."),
@@ -90,7 +90,7 @@ def search_options(command: CommandFunction) -> CommandFunction:
     return command
 
 
-def selection_options(command: CommandFunction) -> CommandFunction:
+def last_failed_and_shard_options(command: CommandFunction) -> CommandFunction:
     """The words that choose among the scripts that are found."""
     for option in (
         click.option("--last-failed", is_flag=True, help="Only what didn't pass in the last run of these paths."),
@@ -116,7 +116,7 @@ html_option = click.option(
 )
 
 
-def plot_options(command: CommandFunction) -> CommandFunction:
+def plot_selection_options(command: CommandFunction) -> CommandFunction:
     """The words that say of which scripts the page has diagrams."""
     for option in (
         click.option("--plots", metavar="N", type=click.IntRange(0), help=f"Draw the first N that fail, not {MOST}."),
@@ -126,6 +126,6 @@ def plot_options(command: CommandFunction) -> CommandFunction:
     return command
 
 
-def thread_count(workers: int | None) -> int:
+def thread_count_or_one_per_processor(workers: int | None) -> int:
     """As many threads as are asked for, or one a processor."""
     return min(len(os.sched_getaffinity(0)), MOST_WORKERS) if workers is None else workers

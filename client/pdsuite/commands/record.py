@@ -6,31 +6,42 @@ from collections.abc import Iterable, Iterator, Sequence
 from dataclasses import dataclass
 from pathlib import Path
 
-from pdsuite.commands.options import thread_count
+from pdsuite.commands.options import thread_count_or_one_per_processor
 from pdsuite.faults import Fault
 from pdsuite.files import write_file_atomically
 from pdsuite.output.octets import printable_path, printable_text
-from pdsuite.output.screen import Screen, print_error
+from pdsuite.output.screen import Screen, print_line_on_stderr
 from pdsuite.output.styled_text import StyledText, unstyled_text
-from pdsuite.programs.locate import RECORD, REGRESS, locate_program
+from pdsuite.programs.locate import RECORD, REGRESS, locate_given_or_proved_program
 from pdsuite.programs.lookup import SenderGuard, client_programs_lookup
 from pdsuite.programs.program import Program
 from pdsuite.programs.protocol import Cause
 from pdsuite.programs.recorder import DROP_MISSING, MINIMAL, Recording, record_texts
-from pdsuite.programs.refusals import refusal_lines
+from pdsuite.programs.refusals import query_refusal_lines
 from pdsuite.programs.unproved_programs import proved_or_built_program
 from pdsuite.programs.verdict import Verdict
-from pdsuite.run.batches import SuiteScript, group_into_batches
-from pdsuite.run.collect import INPUT, find_selected_scripts, make_scripts, standard_input_script
+from pdsuite.run.batches import SuiteScript, batch_scripts_by_equal_settings
+from pdsuite.run.collect import (
+    INPUT,
+    find_selected_scripts_and_read_configs,
+    suite_scripts_with_config,
+    read_standard_input_script_if_named,
+)
 from pdsuite.run.explainer import EXPLAIN_OPTIONS
 from pdsuite.run.local_mapper import local_mapper
 from pdsuite.run.outcomes import ScriptOutcome
 from pdsuite.run.run_batches import SettledPiece
 from pdsuite.scripts.config import SuiteConfig, layer_of_option
-from pdsuite.scripts.file_diff import FileDiff, match_line_ends, unified_hunks
+from pdsuite.scripts.file_diff import FileDiff, give_recording_line_ends_of_file, unified_hunks
 from pdsuite.scripts.settings import Settings
-from pdsuite.scripts.text import LONGEST_FILE, ScriptText, UnfitTextError, make_text, read_regular_file
-from pdsuite.scripts.unused_tables import unused_table_lines_under
+from pdsuite.scripts.text import (
+    LONGEST_FILE,
+    ScriptText,
+    UnfitTextError,
+    make_newline_ended_text_within_limits,
+    read_regular_file_up_to_limit,
+)
+from pdsuite.scripts.unused_tables import unused_table_warning_lines_under_paths
 from pdsuite.signals import Stop, StoppedError
 
 _FAULT = 2
@@ -83,33 +94,35 @@ def record_scripts(options: RecordOptions, screen: Screen) -> int:
         suite = SuiteConfig(layer_of_option(options.settings))
         scripts: list[SuiteScript] = []
         try:
-            scripts = _find_scripts(options, suite, stop)
+            scripts = _standard_input_or_found_scripts(options, suite, stop)
             steady = SenderGuard(client_programs_lookup(REGRESS, RECORD))
             program = proved_or_built_program(REGRESS, stop, screen)
-            refused = refusal_lines(suite.all_claims(), lambda: Program([program], stop))
-            if lines := [*unused_table_lines_under(suite, options.paths), *refused]:
+            refused = query_refusal_lines(suite.all_claims(), lambda: Program([program], stop))
+            if lines := [*unused_table_warning_lines_under_paths(suite, options.paths), *refused]:
                 for line in lines:
-                    print_error(line)
+                    print_line_on_stderr(line)
                 return _FAULT
-            recorder = locate_program(RECORD)
+            recorder = locate_given_or_proved_program(RECORD)
             texts = {it.index: _octets_or_fault(it) for it in scripts}
-            modes = _choose_modes(scripts, texts, program, options, screen, stop)
+            modes = _run_to_choose_record_modes(scripts, texts, program, options, screen, stop)
             each = _record_by_modes(scripts, texts, modes, recorder, screen, stop)
             steady.require_unchanged("nothing is written" if options.writes else "record again")
         except StoppedError as stopped:
             if options.writes:
-                print_error(_interrupted_line(0, len(scripts)))
+                print_line_on_stderr(_interrupted_line(0, len(scripts)))
             return stopped.status
         finally:
             screen.clear_live_lines()
         return _show_or_write_changes(each, options.writes, screen, stop)
 
 
-def _find_scripts(options: RecordOptions, suite: SuiteConfig, stop: Stop) -> list[SuiteScript]:
+def _standard_input_or_found_scripts(options: RecordOptions, suite: SuiteConfig, stop: Stop) -> list[SuiteScript]:
     """The scripts that are meant: standard input, or those that are found."""
-    if (script := standard_input_script(options.paths, suite)) is not None:
+    if (script := read_standard_input_script_if_named(options.paths, suite)) is not None:
         return [script]
-    return make_scripts(find_selected_scripts(options.paths, options.only, suite, stop), suite)
+    return suite_scripts_with_config(
+        find_selected_scripts_and_read_configs(options.paths, options.only, suite, stop), suite
+    )
 
 
 def _octets_or_fault(script: SuiteScript) -> bytes | str:
@@ -117,14 +130,14 @@ def _octets_or_fault(script: SuiteScript) -> bytes | str:
     if script.fault:
         return script.fault
     try:
-        held = read_regular_file(script.path, LONGEST_FILE + 1) if script.held is None else script.held
-        make_text(held)
+        held = read_regular_file_up_to_limit(script.path, LONGEST_FILE + 1) if script.held is None else script.held
+        make_newline_ended_text_within_limits(held)
     except UnfitTextError as unfit:
         return str(unfit)
     return held
 
 
-def _choose_modes(
+def _run_to_choose_record_modes(
     scripts: Sequence[SuiteScript],
     texts: dict[int, bytes | str],
     program: Path,
@@ -135,25 +148,25 @@ def _choose_modes(
     """How each script is recorded, by its place."""
     modes: dict[int, RecordMode] = {}
 
-    def held_text(script: SuiteScript) -> ScriptText | str:
+    def already_read_text_or_fault(script: SuiteScript) -> ScriptText | str:
         held = texts[script.index]
-        return held if isinstance(held, str) else make_text(held)
+        return held if isinstance(held, str) else make_newline_ended_text_within_limits(held)
 
-    for step in local_mapper(program, EXPLAIN_OPTIONS, thread_count(options.workers), stop, held_text)(
-        group_into_batches(scripts)
-    ):
+    for step in local_mapper(
+        program, EXPLAIN_OPTIONS, thread_count_or_one_per_processor(options.workers), stop, already_read_text_or_fault
+    )(batch_scripts_by_equal_settings(scripts)):
         if not isinstance(step, SettledPiece):
-            screen.print_note(str(step))
+            screen.print_note_on_stderr(str(step))
             continue
         modes |= {
-            it.index: record_mode_of(it, outcome, step.causes.get(it.index), options.program_options)
+            it.index: record_mode_or_none_to_keep(it, outcome, step.causes.get(it.index), options.program_options)
             for it, outcome in step.outcomes
         }
         screen.show_progress(len(modes), len(scripts), "scripts run")
     return modes
 
 
-def record_mode_of(
+def record_mode_or_none_to_keep(
     script: SuiteScript, outcome: ScriptOutcome, leaving: Cause | None, requested: Sequence[str]
 ) -> RecordMode:
     """How a script is recorded that came to this, and leaves this where it passes.
@@ -194,16 +207,16 @@ def _record_by_modes(
     for (settings, mode), group in groups.items():
         made = record_texts(recorder, [text for _, text in group], settings, stop, mode)
         for (script, text), it in zip(group, made):
-            each[script.index] = _apply_recording(script, text, it)
+            each[script.index] = _recorded_file_from_recording(script, text, it)
             screen.show_progress(len(each), len(scripts), "scripts recorded")
     return [each[it.index] for it in scripts]
 
 
-def _apply_recording(script: SuiteScript, text: bytes, it: Recording) -> RecordedFile:
+def _recorded_file_from_recording(script: SuiteScript, text: bytes, it: Recording) -> RecordedFile:
     if it.fault:
         return RecordedFile(script, FileDiff(script.path, text, text), it.fault)
     recording = it.text.encode("utf-8", "surrogateescape")
-    return RecordedFile(script, FileDiff(script.path, text, match_line_ends(text, recording)))
+    return RecordedFile(script, FileDiff(script.path, text, give_recording_line_ends_of_file(text, recording)))
 
 
 def _interrupted_line(written: int, count: int) -> str:
@@ -223,15 +236,15 @@ def _show_or_write_changes(each: Sequence[RecordedFile], writes: bool, screen: S
                 try:
                     stop.raise_if_stopped()
                 except StoppedError as stopped:
-                    print_error(_interrupted_line(number, len(changed)))
+                    print_line_on_stderr(_interrupted_line(number, len(changed)))
                     return stopped.status
                 write_file_atomically(Path(it.script.path), it.diff.new, keeps_rights=True)
             else:
                 screen.show(unified_diff_text(it.diff))
-        screen.show(unstyled_text("".join(f"{line}\n" for line in total_lines(each))))
+        screen.show(unstyled_text("".join(f"{line}\n" for line in changed_folder_and_total_lines(each))))
     for it in each:
         if it.fault:
-            print_error(f"{printable_path(it.script.path)}: isn't recorded: {it.fault}")
+            print_line_on_stderr(f"{printable_path(it.script.path)}: isn't recorded: {it.fault}")
     if any(it.fault for it in each):
         return _FAULT
     return 1 if changed and not writes else 0
@@ -259,7 +272,7 @@ def _printable_line(line: str) -> str:
     return line if line.replace("\t", " ").isprintable() else printable_text(line)
 
 
-def total_lines(each: Sequence[RecordedFile]) -> Iterator[str]:
+def changed_folder_and_total_lines(each: Sequence[RecordedFile]) -> Iterator[str]:
     """A line for each folder with a script that changes, and one for all."""
     folders: dict[str, list[RecordedFile]] = {}
     for it in each:
@@ -267,11 +280,11 @@ def total_lines(each: Sequence[RecordedFile]) -> Iterator[str]:
     if len(folders) > 1:
         for folder, below in folders.items():
             if any(it.would_change_file for it in below):
-                yield f"{printable_path(folder)}: {_counts_in_words(below)}"
-    yield f"total {_counts_in_words(each)}"
+                yield f"{printable_path(folder)}: {_script_and_line_change_counts_text(below)}"
+    yield f"total {_script_and_line_change_counts_text(each)}"
 
 
-def _counts_in_words(each: Iterable[RecordedFile]) -> str:
+def _script_and_line_change_counts_text(each: Iterable[RecordedFile]) -> str:
     scripts = list(each)
     changed = [it for it in scripts if it.would_change_file]
     counts = [it.diff.added_and_removed_counts for it in changed]

@@ -13,7 +13,7 @@ RENAMED: Mapping[str, Mapping[str, str]] = {
 }
 
 
-def with_new_option_name(error: click.ClickException) -> click.ClickException:
+def error_with_new_option_name(error: click.ClickException) -> click.ClickException:
     """The same error, which says the name of an option that has another one now, and guesses no other."""
     if not isinstance(error, click.NoSuchOption) or error.ctx is None:
         return error

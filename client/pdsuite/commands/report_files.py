@@ -10,7 +10,7 @@ import click
 
 from pdsuite.commands.options import PathParam
 from pdsuite.faults import Fault
-from pdsuite.files import check_writable, is_special_file, write_file_atomically
+from pdsuite.files import require_writable_file_place, is_special_file, write_file_atomically
 from pdsuite.output.octets import printable_path
 from pdsuite.reports.as_json import JsonFormatter
 from pdsuite.reports.formatter import Formatter, format_report
@@ -59,7 +59,7 @@ class ReportCommand(click.Command):
         for option in options:
             for name in _SUFFIXES.keys() & set(option.opts):
                 ctx.params[name.lstrip("-")] = (
-                    None if ctx.resilient_parsing else _file_of_flag(option, files[name], ctx)
+                    None if ctx.resilient_parsing else _at_most_one_file_of_flag(option, files[name], ctx)
                 )
         return left
 
@@ -71,7 +71,7 @@ def _printing_flags(words: Sequence[str], taking: Collection[str]) -> list[str]:
     return list(dict.fromkeys(flags))
 
 
-def _file_of_flag(option: click.Option, named: Sequence[str], ctx: click.Context) -> Path | None:
+def _at_most_one_file_of_flag(option: click.Option, named: Sequence[str], ctx: click.Context) -> Path | None:
     """The file that a flag has, if it has one."""
     paths = list(dict.fromkeys(FileParam().convert(it, option, ctx) for it in named))
     if len(paths) > 1:
@@ -99,7 +99,7 @@ def split_off_report_files(words: Sequence[str], taking: Collection[str]) -> tup
         elif flag not in _SUFFIXES:
             rest.append(word)
         else:
-            if not equals and left and _is_file_of_flag(left[0], _SUFFIXES[flag]):
+            if not equals and left and _is_file_argument_after_flag(left[0], _SUFFIXES[flag]):
                 equals, file = "=", left.pop(0)
             if equals and file != _OUTPUT:
                 files[flag].append(file)
@@ -108,7 +108,7 @@ def split_off_report_files(words: Sequence[str], taking: Collection[str]) -> tup
     return rest, files
 
 
-def _is_file_of_flag(word: str, suffix: str) -> bool:
+def _is_file_argument_after_flag(word: str, suffix: str) -> bool:
     """Whether the word after a flag is its file."""
     return word == _OUTPUT or (word.endswith(suffix) and not word.startswith("-"))
 
@@ -127,12 +127,12 @@ class ReportFiles:
         files = ((_JUNIT, self.junit), (_JSON, self.json), (_TAP, self.tap))
         return [(word, path) for word, path in files if path is not None]
 
-    def check_places(self, scripts: Iterable[str]) -> None:
+    def refuse_unwritable_or_colliding_files(self, scripts: Iterable[str]) -> None:
         """Raises a fault where a report can't be written, or would take the place of another one or of a script."""
         words: dict[Path, str] = {}
         for word, path in self.requested_files:
             try:
-                check_writable(path)
+                require_writable_file_place(path)
             except Fault as fault:
                 raise Fault(f"{word}: {fault}") from fault
             if is_special_file(path):
@@ -143,9 +143,9 @@ class ReportFiles:
             words[place] = word
             if place.suffix == SUFFIX or place.name == SETTINGS:
                 raise Fault(f"{word}: {printable_path(path)}: has the name of a script or of settings")
-        _refuse_overwriting([it for it in self.requested_files if it[1].is_file()], scripts)
+        _refuse_overwriting_scripts_or_output([it for it in self.requested_files if it[1].is_file()], scripts)
 
-    def write_reports(
+    def write_reports_collecting_faults(
         self, outcomes: Sequence[ScriptOutcome], totals: OutcomeTotals, seconds: float, shard: Shard | None
     ) -> list[Fault]:
         """Writes the reports, and answers why some couldn't be written."""
@@ -170,17 +170,17 @@ def _report_octets(
     return format_report(forms[word], outcomes, totals, seconds).encode()
 
 
-def _refuse_overwriting(files: Iterable[tuple[str, Path]], scripts: Iterable[str]) -> None:
+def _refuse_overwriting_scripts_or_output(files: Iterable[tuple[str, Path]], scripts: Iterable[str]) -> None:
     """Refuses to put a report in the place of a script, or of the file that standard output goes to."""
-    known = {_file_identity(path): f"{word}: {printable_path(path)}" for word, path in files}
-    if known and (found := known.get(_file_identity(sys.stdout.fileno()))) is not None:
+    known = {_device_and_inode_if_present(path): f"{word}: {printable_path(path)}" for word, path in files}
+    if known and (found := known.get(_device_and_inode_if_present(sys.stdout.fileno()))) is not None:
         raise Fault(f"{found}: standard output goes there")
     for script in scripts if known else ():
-        if (found := known.get(_file_identity(script))) is not None:
+        if (found := known.get(_device_and_inode_if_present(script))) is not None:
             raise Fault(f"{found}: is one of the scripts")
 
 
-def _file_identity(path: str | Path | int) -> tuple[int, int] | None:
+def _device_and_inode_if_present(path: str | Path | int) -> tuple[int, int] | None:
     """What distinguishes a file that is there, or is open, from all others; None where none is."""
     try:
         found = os.stat(path)

@@ -8,15 +8,15 @@ from pathlib import Path
 from tempfile import TemporaryDirectory
 from typing import TYPE_CHECKING
 
-from pdsuite.commands.options import thread_count
+from pdsuite.commands.options import thread_count_or_one_per_processor
 from pdsuite.compare.senders import resolve_sender
 from pdsuite.faults import Fault
 from pdsuite.output.octets import printable_text
-from pdsuite.output.screen import Screen, print_error
-from pdsuite.page.diagram_choice import make_diagram_choice
-from pdsuite.programs.build import build_if_needed, find_kept_build
+from pdsuite.output.screen import Screen, print_line_on_stderr
+from pdsuite.page.diagram_choice import diagram_choice_with_defaults
+from pdsuite.programs.build import build_if_needed_and_get_folder, find_kept_build
 from pdsuite.programs.locate import RECORD, REGRESS
-from pdsuite.programs.lookup import buildable_tree, client_programs_lookup
+from pdsuite.programs.lookup import find_own_tree_if_buildable, client_programs_lookup
 from pdsuite.programs.unproved_programs import build_progress_printer, unproved_notice
 from pdsuite.run.collect import INPUT
 from pdsuite.scripts.config import layer_of_option
@@ -57,15 +57,17 @@ def watch_scripts(options: WatchOptions, screen: Screen) -> int:
     option = layer_of_option(options.settings)
     choice = WatchChoice(options.paths, options.only, options.strict)
     with Stop() as stop, ExitStack() as held:
-        view = View(screen, None, options.verbose, _make_change_report(options, screen), options.html is not None)
+        view = View(
+            screen, None, options.verbose, _terminal_or_plain_change_report(options, screen), options.html is not None
+        )
         try:
-            tree = buildable_tree()
+            tree = find_own_tree_if_buildable()
             follower = held.enter_context(SenderFollower(client_programs_lookup(REGRESS, RECORD), (REGRESS,), tree))
-            follower.look_for_sender(0.0)
+            follower.update_sender_returning_whether_changed(0.0)
             if follower.sender is None:
-                _print_unproved_notice(follower, tree, screen)
-            page = held.enter_context(_make_page_updates(options, screen))
-            base = _make_base_sender(
+                _require_tree_and_print_unproved_notice(follower, tree, screen)
+            page = held.enter_context(_page_updates_or_null_context(options, screen))
+            base = _build_base_sender_if_requested(
                 options, Path(held.enter_context(TemporaryDirectory(prefix="pdsuite-"))), screen, stop
             )
             watched = WatchedSuite(choice, option, base)
@@ -73,38 +75,45 @@ def watch_scripts(options: WatchOptions, screen: Screen) -> int:
         except SessionSettingsError as refused:
             lines = refused.lines
         except StoppedError as stopped:
-            return stopped.status if view.exit_status is None else view.exit_status
+            return (
+                stopped.status if view.last_report_exit_status_if_any is None else view.last_report_exit_status_if_any
+            )
     for line in lines:
-        print_error(line)
+        print_line_on_stderr(line)
     return 2
 
 
-def _print_unproved_notice(follower: SenderFollower, tree: Path | None, screen: Screen) -> None:
+def _require_tree_and_print_unproved_notice(follower: SenderFollower, tree: Path | None, screen: Screen) -> None:
     """Says that the sender isn't proved; a fault where none can be built."""
     if tree is None:
         raise Fault(follower.reason)
-    screen.print_note(f"pdsuite: {unproved_notice(find_kept_build(tree, WAY) is not None)}")
+    screen.print_note_on_stderr(f"pdsuite: {unproved_notice(find_kept_build(tree, WAY) is not None)}")
 
 
-def _make_base_sender(options: WatchOptions, room: Path, screen: Screen, stop: Stop) -> BaseSender | None:
+def _build_base_sender_if_requested(options: WatchOptions, room: Path, screen: Screen, stop: Stop) -> BaseSender | None:
     """The sender against which turned scripts are compared, built now where that has to be."""
     if options.base is None:
         return None
     sender = resolve_sender(options.base, "--base", room / "base")
     if sender.programs is None:
-        folder = find_kept_build(sender.tree_to_build, WAY) or build_if_needed(
-            sender.tree_to_build, WAY, stop, build_progress_printer(screen, f" {sender.name}")
+        folder = find_kept_build(sender.known_tree_to_build, WAY) or build_if_needed_and_get_folder(
+            sender.known_tree_to_build, WAY, stop, build_progress_printer(screen, f" {sender.name}")
         )
         programs = (folder / REGRESS, folder / RECORD)
-        return BaseSender(programs, thread_count(options.workers), stop, screen.print_note)
+        return BaseSender(
+            programs, thread_count_or_one_per_processor(options.workers), stop, screen.print_note_on_stderr
+        )
     return BaseSender(
-        (sender.programs[REGRESS], sender.programs.get(RECORD)), thread_count(options.workers), stop, screen.print_note
+        (sender.programs[REGRESS], sender.programs.get(RECORD)),
+        thread_count_or_one_per_processor(options.workers),
+        stop,
+        screen.print_note_on_stderr,
     )
 
 
-def _make_change_report(options: WatchOptions, screen: Screen) -> ChangeReport:
+def _terminal_or_plain_change_report(options: WatchOptions, screen: Screen) -> ChangeReport:
     """How changes are reported: on a terminal a few of them."""
-    if screen.width is None:
+    if screen.terminal_columns_if_any is None:
         return ChangeReport()
     # Only who watches on a terminal pays for what breaks lines.
     from pdsuite.watch.terminal_report import TerminalReport
@@ -114,13 +123,19 @@ def _make_change_report(options: WatchOptions, screen: Screen) -> ChangeReport:
     words += ["--settings", options.settings] if options.settings else []
     paths = list(map(str, options.paths))
     end = ["--"] if any(it.startswith("-") for it in paths) else []
-    return TerminalReport(lambda: screen.width or _WIDTH, printable_text(shlex.join([*words, *end, *paths])))
+    return TerminalReport(
+        lambda: screen.terminal_columns_if_any or _WIDTH, printable_text(shlex.join([*words, *end, *paths]))
+    )
 
 
-def _make_page_updates(options: WatchOptions, screen: Screen) -> "AbstractContextManager[PageUpdates | None]":
+def _page_updates_or_null_context(
+    options: WatchOptions, screen: Screen
+) -> "AbstractContextManager[PageUpdates | None]":
     """The page, if one is requested."""
     if options.html is None:
         return nullcontext()
     from pdsuite.page.page_updates import PageUpdates
 
-    return PageUpdates(options.html, make_diagram_choice(options.plot, options.plots), screen.print_note)
+    return PageUpdates(
+        options.html, diagram_choice_with_defaults(options.plot, options.plots), screen.print_note_on_stderr
+    )

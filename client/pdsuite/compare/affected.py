@@ -13,7 +13,13 @@ from typing import Any
 from pdsuite.compare.senders import Sender
 from pdsuite.faults import Fault
 from pdsuite.output.octets import printable_octets, printable_path
-from pdsuite.programs.batch_protocol import ProgramAnswer, Case, ProcessOutput, take_length_prefixed, with_length_line
+from pdsuite.programs.batch_protocol import (
+    ProgramAnswer,
+    Case,
+    ProcessOutput,
+    take_whole_length_prefixed_parts,
+    with_length_line,
+)
 from pdsuite.programs.locate import RECORD, REGRESS, TOP
 from pdsuite.programs.program import Program, ProgramEndedError
 from pdsuite.programs.unproved_batch import ProgramCases, build_and_run_cases
@@ -58,7 +64,7 @@ class Affected:
     paragraphs: tuple[Paragraph, ...] | None
 
     @property
-    def has_affected_or_unheard_rows(self) -> bool:
+    def has_affected_or_unanswered_rows(self) -> bool:
         return bool(self.rows or self.unheard)
 
 
@@ -73,22 +79,22 @@ class RowStarts:
         """The starts of a program."""
         return tuple(case for name, case in self.starts if name == program)
 
-    def program_cases(self, tree: Path) -> list[ProgramCases]:
+    def cases_of_pdregress_and_pdrecord(self, tree: Path) -> list[ProgramCases]:
         """The same, of a tree that has to be built."""
         return [ProgramCases(tree, it, (), self.cases_of_program(it)) for it in (REGRESS, RECORD)]
 
 
-def load_row_starts(sender: Sender, room: Path) -> RowStarts:
+def query_test_row_starts_of_sender(sender: Sender, room: Path) -> RowStarts:
     """The rows of a sender's tree as starts of programs."""
     tree = sender.find_or_check_out_sources(room)
     if tree is None or not (tree / _TOOL).is_file() or not (tree / _ROWS).is_dir():
         raise Fault(f"--affected: {sender} is no tree with {_ROWS} and {_TOOL}")
-    return RowStarts(tree, list(_parse_starts(_run_affected_tool(tree, "starts"))))
+    return RowStarts(tree, list(_parse_program_names_and_cases(_run_affected_tool(tree, "starts"))))
 
 
-def _parse_starts(output: bytes) -> Iterator[tuple[str, Case]]:
+def _parse_program_names_and_cases(output: bytes) -> Iterator[tuple[str, Case]]:
     """The starts: words, an input, and how much is printed at most."""
-    each = take_length_prefixed(bytearray(output))
+    each = take_whole_length_prefixed_parts(bytearray(output))
     for joined, given, room in zip(each, each, each):
         program, *words = joined.decode().split("\0")
         yield program, Case(tuple(words), given, int(room))
@@ -108,7 +114,7 @@ def _run_affected_tool(tree: Path, *words: str | Path) -> bytes:
     return done.stdout
 
 
-def changed_names(before: Path | None, after: Path | None) -> list[dict[str, Any]]:
+def names_changed_between_trees(before: Path | None, after: Path | None) -> list[dict[str, Any]]:
     """What changed between the sources of two senders, with the names in it; nothing where one isn't known."""
     if before is None or after is None or not (TOP / _TOOL).is_file():
         return []
@@ -119,7 +125,7 @@ def changed_names(before: Path | None, after: Path | None) -> list[dict[str, Any
 def run_starts_on_programs(programs: dict[str, Path], row_starts: RowStarts, stop: Stop) -> list[ProcessOutput]:
     """What proved programs say, several at a time."""
 
-    def run_start(each: tuple[str, Case]) -> ProcessOutput:
+    def run_start_or_empty_output(each: tuple[str, Case]) -> ProcessOutput:
         name, case = each
         try:
             with Program([programs[name], *case.words], stop) as program:
@@ -130,10 +136,10 @@ def run_starts_on_programs(programs: dict[str, Path], row_starts: RowStarts, sto
     # One that isn't there has printed nothing.
     there = [each if each[0] in programs else None for each in row_starts.starts]
     with ThreadPoolExecutor(len(os.sched_getaffinity(0))) as pool:
-        return list(pool.map(lambda each: run_start(each) if each else ProcessOutput(), there))
+        return list(pool.map(lambda each: run_start_or_empty_output(each) if each else ProcessOutput(), there))
 
 
-def collect_build_outputs(
+def tree_outputs_after_isolated_reruns(
     row_starts: RowStarts,
     answers: Sequence[Sequence[ProgramAnswer]],
     tree: Path,
@@ -157,7 +163,7 @@ def collect_build_outputs(
     return [next(by_name[name]).raw for name, _ in row_starts.starts]
 
 
-def find_affected(
+def find_affected_rows_and_paragraphs(
     row_starts: RowStarts, outputs: Sequence[Sequence[ProcessOutput]], before: Path | None, room: Path
 ) -> Affected:
     """What is affected, by the outputs of both senders, and by the sources of the one before, if these are known."""

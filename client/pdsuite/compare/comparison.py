@@ -6,7 +6,7 @@ from collections.abc import Iterable, Iterator, Mapping, Sequence
 from dataclasses import dataclass, field
 from enum import StrEnum
 
-from pdsuite.compare.divergence import Divergence, first_divergence
+from pdsuite.compare.divergence import Divergence, first_divergence_in_event_or_time
 from pdsuite.output.octets import printable_octets
 from pdsuite.programs.batch_protocol import ProcessOutput
 from pdsuite.programs.protocol import Cause
@@ -69,7 +69,7 @@ def _compare_script(index: int, before: SenderResults, after: SenderResults) -> 
     old, new = before.outcomes[index], after.outcomes[index]
     one, other = (it.recordings.get(index, _NO_RECORDING) for it in (before, after))
     why = (one.fault if not one.text else "", other.fault if not other.text else "")
-    parting = first_divergence(one.text, other.text) if one.text and other.text else None
+    parting = first_divergence_in_event_or_time(one.text, other.text) if one.text and other.text else None
     if old.row != new.row:
         kind = ComparisonKind.TURNED
     elif parting is not None or bool(one.text) != bool(other.text):
@@ -77,11 +77,11 @@ def _compare_script(index: int, before: SenderResults, after: SenderResults) -> 
     else:
         kind = ComparisonKind.SAME if one.text else ComparisonKind.UNKNOWN
     return ComparedScript(
-        index, kind, old, new, parting, why, (one.text, other.text), _first_comment(after.texts.get(index))
+        index, kind, old, new, parting, why, (one.text, other.text), _comment_on_first_line(after.texts.get(index))
     )
 
 
-def _first_comment(text: ScriptText | None) -> str:
+def _comment_on_first_line(text: ScriptText | None) -> str:
     """The first line of a text, if that is a comment."""
     line = b"" if text is None else text.octets.partition(b"\n")[0].strip()
     return printable_octets(line.removeprefix(_COMMENT).strip()) if line.startswith(_COMMENT) else ""
@@ -100,20 +100,22 @@ class KindCounts:
 
     def __str__(self) -> str:
         """The counts as the last line of a report has them."""
-        return " ".join([str(self._script_count), *(f"{it} {self.counts[it]}" for it in self._listed_kinds)])
+        return " ".join(
+            [str(self._script_count), *(f"{it} {self.counts[it]}" for it in self._kinds_without_unknown_if_zero)]
+        )
 
     @property
     def counts_in_words(self) -> str:
         """The counts in words."""
         scripts = f"{self._script_count} {'script' if self._script_count == 1 else 'scripts'}"
-        return ", ".join([scripts, *(f"{self.counts[it]} {it}" for it in self._listed_kinds)])
+        return ", ".join([scripts, *(f"{self.counts[it]} {it}" for it in self._kinds_without_unknown_if_zero)])
 
     @property
     def _script_count(self) -> int:
         return sum(self.counts.values())
 
     @property
-    def _listed_kinds(self) -> list[ComparisonKind]:
+    def _kinds_without_unknown_if_zero(self) -> list[ComparisonKind]:
         return [it for it in ComparisonKind if it is not ComparisonKind.UNKNOWN or self.counts[it]]
 
 

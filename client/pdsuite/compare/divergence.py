@@ -32,7 +32,7 @@ class Divergence:
     state_after: str
 
 
-def played_events(recording: str) -> Iterator[PlayedEvent]:
+def parse_played_events(recording: str) -> Iterator[PlayedEvent]:
     """The events of a recording that was made with a trace."""
     lines: list[str] = []
     for line in recording.split("\n"):
@@ -44,12 +44,12 @@ def played_events(recording: str) -> Iterator[PlayedEvent]:
             lines.append(line)
 
 
-def first_divergence(before: str, after: str) -> Divergence | None:
+def first_divergence_in_event_or_time(before: str, after: str) -> Divergence | None:
     """Where two recordings part, if they do: by an event or its moment. A state alone makes no difference."""
     states = ("", "")
     if before == after:
         return None
-    for one, other in zip_longest(played_events(before), played_events(after)):
+    for one, other in zip_longest(parse_played_events(before), parse_played_events(after)):
         if one is None or other is None or (one.line, one.moment) != (other.line, other.moment):
             return Divergence(one, other, *states)
         states = (one.state, other.state)

@@ -5,8 +5,8 @@ from dataclasses import dataclass
 from itertools import zip_longest
 
 from pdsuite.compare.comparison import ComparedScript
-from pdsuite.compare.divergence import PlayedEvent, played_events
-from pdsuite.packetdrill.columns import Mark, columns_of_packets
+from pdsuite.compare.divergence import PlayedEvent, parse_played_events
+from pdsuite.packetdrill.columns import Mark, marked_field_columns_of_both_packets
 
 _LESS = "nothing more is played"
 _UNKNOWN = "no recording tells"
@@ -32,28 +32,28 @@ def group_by_first_difference(scripts: Sequence[ComparedScript]) -> list[Group]:
     """The groups of scripts that differ, the largest first, and then in the order of their first scripts."""
     found: dict[tuple[str, str], list[ComparedScript]] = {}
     for it in scripts:
-        found.setdefault(first_difference(*it.recordings), []).append(it)
+        found.setdefault(first_differing_field_and_event_kind(*it.recordings), []).append(it)
     groups = [Group(*key, tuple(mine)) for key, mine in found.items()]
     return sorted(groups, key=lambda it: -len(it.scripts))
 
 
-def first_difference(before: str, after: str) -> tuple[str, str]:
+def first_differing_field_and_event_kind(before: str, after: str) -> tuple[str, str]:
     """The first field of an event, or fact of a state, in which two recordings differ, and the kind of the event."""
     if not before or not after:
         return _UNKNOWN, ""
     previous: PlayedEvent | None = None
-    for one, other in zip_longest(played_events(before), played_events(after)):
+    for one, other in zip_longest(parse_played_events(before), parse_played_events(after)):
         if one is None or other is None:
             return _LESS, _event_kind(one or other, previous)
         if (one.line, one.moment) != (other.line, other.moment):
-            return _first_differing_field(one, other), _event_kind(one, previous)
+            return _first_differing_event_field_name(one, other), _event_kind(one, previous)
         if one.state != other.state:
-            return _first_differing_fact(one.state, other.state), _event_kind(one, previous)
+            return _first_differing_state_fact_name(one.state, other.state), _event_kind(one, previous)
         previous = one
     return _UNKNOWN, ""
 
 
-def _first_differing_fact(one: str, other: str) -> str:
+def _first_differing_state_fact_name(one: str, other: str) -> str:
     """The first fact in which two states differ."""
     facts, others = _facts_of_state(one), _facts_of_state(other)
     return next(name for name in {**facts, **others} if facts.get(name) != others.get(name))
@@ -64,13 +64,13 @@ def _facts_of_state(state: str) -> Mapping[str, str]:
     return {"state": name} | dict(it.split(":", 1) for it in facts)
 
 
-def _first_differing_field(one: PlayedEvent, other: PlayedEvent) -> str:
+def _first_differing_event_field_name(one: PlayedEvent, other: PlayedEvent) -> str:
     """The first field in which two events differ."""
     if _is_call(one) and _is_call(other):
         return _CALL
     if one.line.split(" ", 2)[1:2] != other.line.split(" ", 2)[1:2]:
         return "what leaves"
-    parts, _ = columns_of_packets(one.line, other.line, "")
+    parts, _ = marked_field_columns_of_both_packets(one.line, other.line, "")
     names = dict(zip(("time", "flags", "seq", "ack", "win", "options"), parts))
     differing = [name for name, it in names.items() if it.mark is not Mark.NONE]
     return differing[0] if differing else _TIME

@@ -73,20 +73,20 @@ class QuantityChange:
 
 def sorted_quantity_changes(compared: Iterable[ComparedScript], quantity: Quantity) -> list[QuantityChange]:
     """The scripts whose quantities changed, the largest change of one of them first."""
-    found = [it for it in _quantities_of_recorded(compared) if it.before != it.after]
+    found = [it for it in _quantity_changes_where_both_recorded(compared) if it.before != it.after]
     return sorted(
         found, key=lambda it: (-it.absolute_change(quantity), *(-it.absolute_change(other) for other in Quantity))
     )
 
 
-def total_quantities(compared: Sequence[ComparedScript]) -> QuantityChange:
+def summed_quantities_before_and_after(compared: Sequence[ComparedScript]) -> QuantityChange:
     """The sums over all scripts that both senders record."""
-    both = list(_quantities_of_recorded(compared))
+    both = list(_quantity_changes_where_both_recorded(compared))
     before, after = (sum((getattr(it, side) for it in both), Quantities()) for side in ("before", "after"))
     return QuantityChange("", before, after)
 
 
-def _quantities_of_recorded(compared: Iterable[ComparedScript]) -> Iterator[QuantityChange]:
+def _quantity_changes_where_both_recorded(compared: Iterable[ComparedScript]) -> Iterator[QuantityChange]:
     for it in compared:
         before, after = it.recordings
         if before and after:

@@ -11,7 +11,13 @@ from pathlib import Path
 from pdsuite.faults import Fault, error_reason
 from pdsuite.output.octets import printable_octets, printable_path, printable_text
 from pdsuite.programs.locate import BATCH_TOOL, PACKAGE_VERSION, PROGRAMS_VARIABLE, RECORD, REGRESS, TOP
-from pdsuite.programs.locate import UnprovedError, client_commit, find_proved_program, locate_program, tree_of_launchers
+from pdsuite.programs.locate import (
+    UnprovedError,
+    client_version_or_commit,
+    require_proved_program,
+    locate_given_or_proved_program,
+    find_tree_if_launcher_folder,
+)
 from pdsuite.programs.lookup import ProgramLookup, lookup_by_paths, proved_programs_lookup
 
 _KEPT = TOP / "tools/last_proved.py"
@@ -46,7 +52,7 @@ class Sender:
         return self.programs is not None
 
     @property
-    def can_record(self) -> bool:
+    def has_recorder_or_is_unbuilt(self) -> bool:
         """Whether it can record."""
         return self.programs is None or RECORD in self.programs
 
@@ -59,19 +65,19 @@ class Sender:
                 if self.tree is None
                 else proved_programs_lookup(self.tree, *self.programs)
             )
-        return proved_programs_lookup(self.tree_to_build, REGRESS)
+        return proved_programs_lookup(self.known_tree_to_build, REGRESS)
 
     def find_or_check_out_sources(self, place: Path) -> Path | None:
         """The tree of its sources, if it is known; that of a commit is put into a new folder."""
         if self.tree is None and self.commit:
             with suppress(Fault):
                 place.mkdir()
-                _check_out_commit(self.commit, _COMMIT, place)
+                _check_out_commit_returning_name(self.commit, _COMMIT, place)
                 return place
         return self.tree
 
     @property
-    def tree_to_build(self) -> Path:
+    def known_tree_to_build(self) -> Path:
         """The tree that it is built from."""
         assert self.tree is not None
         return self.tree
@@ -83,36 +89,36 @@ class Sender:
 def resolve_sender(word: str, option: str, place: Path) -> Sender:
     """The sender that a word names: a folder of programs, a tree, or a commit, whose tree is put into a new folder."""
     folder = Path(word)
-    if tree := tree_of_launchers(folder):
-        return _sender_of_tree(tree, printable_path(folder))
+    if tree := find_tree_if_launcher_folder(folder):
+        return _sender_of_tree_with_programs_if_proved(tree, printable_path(folder))
     if (folder / REGRESS).is_file():
-        return Sender(printable_path(folder), _find_programs(folder, option), None)
+        return Sender(printable_path(folder), _programs_in_folder_requiring_pdregress(folder, option), None)
     if folder.is_dir():
         raise Fault(f"{option}: {printable_path(folder)}: no folder of programs: it has no {REGRESS}")
     if not BATCH_TOOL.is_file():
         raise Fault(f"{option}: {printable_text(word)}: no folder, and here is no tree with commits")
     place.mkdir()
-    return Sender(_check_out_commit(word, option, place), None, place)
+    return Sender(_check_out_commit_returning_name(word, option, place), None, place)
 
 
 def current_sender() -> Sender:
     """The tree as it stands, or the programs of a package or of PDSUITE_PROGRAMS."""
-    if (folder := os.environ.get(PROGRAMS_VARIABLE)) and (tree := tree_of_launchers(Path(folder))):
-        return _sender_of_tree(tree, printable_path(Path(folder)))
+    if (folder := os.environ.get(PROGRAMS_VARIABLE)) and (tree := find_tree_if_launcher_folder(Path(folder))):
+        return _sender_of_tree_with_programs_if_proved(tree, printable_path(Path(folder)))
     try:
-        programs = {name: locate_program(name) for name in (REGRESS, RECORD)}
+        programs = {name: locate_given_or_proved_program(name) for name in (REGRESS, RECORD)}
     except UnprovedError:
         if not BATCH_TOOL.is_file():
             raise
-        return Sender(f"the tree as it stands, {client_commit()}", None)
+        return Sender(f"the tree as it stands, {client_version_or_commit()}", None)
     is_elsewhere = PACKAGE_VERSION.exists() or os.environ.get(PROGRAMS_VARIABLE)
-    return Sender(f"the proved programs, {client_commit()}", programs, None if is_elsewhere else TOP)
+    return Sender(f"the proved programs, {client_version_or_commit()}", programs, None if is_elsewhere else TOP)
 
 
-def _sender_of_tree(tree: Path, name: str) -> Sender:
+def _sender_of_tree_with_programs_if_proved(tree: Path, name: str) -> Sender:
     """A tree's sender: its programs if both are proved."""
     try:
-        return Sender(name, {it: find_proved_program(it, tree) for it in (REGRESS, RECORD)}, tree)
+        return Sender(name, {it: require_proved_program(it, tree) for it in (REGRESS, RECORD)}, tree)
     except UnprovedError:
         return Sender(name, None, tree)
 
@@ -130,11 +136,14 @@ def last_proved_sender() -> Sender:
     except OSError as error:
         raise Fault(f"{printable_path(folder / _COMMIT)}: {error_reason(error)}") from error
     return Sender(
-        f"the last proved programs, {name}", _find_programs(folder, "./prove"), None, name.removesuffix(_DIRTY)
+        f"the last proved programs, {name}",
+        _programs_in_folder_requiring_pdregress(folder, "./prove"),
+        None,
+        name.removesuffix(_DIRTY),
     )
 
 
-def _find_programs(folder: Path, option: str) -> dict[str, Path]:
+def _programs_in_folder_requiring_pdregress(folder: Path, option: str) -> dict[str, Path]:
     """The programs of a folder; pdrecord may be missing."""
     programs = {name: (folder / name).absolute() for name in (REGRESS, RECORD)}
     there = {name: it for name, it in programs.items() if it.is_file() and os.access(it, os.X_OK)}
@@ -143,16 +152,18 @@ def _find_programs(folder: Path, option: str) -> dict[str, Path]:
     return there
 
 
-def _check_out_commit(word: str, option: str, place: Path) -> str:
+def _check_out_commit_returning_name(word: str, option: str, place: Path) -> str:
     """The name of a commit, whose crates are put into a folder."""
-    commit = _git_output("rev-parse", "--verify", "--quiet", "--end-of-options", f"{word}^{{commit}}")
+    commit = _git_output_or_none_on_failure(
+        "rev-parse", "--verify", "--quiet", "--end-of-options", f"{word}^{{commit}}"
+    )
     if commit is None:
         raise Fault(f"{option}: {printable_text(word)}: neither a folder of programs nor a commit")
     number = commit.strip().decode()
-    there = _git_output("ls-tree", "--name-only", number) or b""
+    there = _git_output_or_none_on_failure("ls-tree", "--name-only", number) or b""
     parts = [it for it in _PARTS if it.encode() in there.split(b"\n")]
     archive = place / "archive.tar"
-    if _git_output("archive", "--format=tar", f"--output={archive}", number, "--", *parts) is None:
+    if _git_output_or_none_on_failure("archive", "--format=tar", f"--output={archive}", number, "--", *parts) is None:
         raise Fault(f"{option}: {printable_text(word)}: git can't archive this commit")
     _unpack_archive(archive, place)
     archive.unlink()
@@ -172,7 +183,7 @@ def _unpack_archive(archive: Path, place: Path) -> None:
             file.extractall(place)
 
 
-def _git_output(*words: str) -> bytes | None:
+def _git_output_or_none_on_failure(*words: str) -> bytes | None:
     """What git prints in this tree, if it does what is requested."""
     try:
         done = subprocess.run(["git", "-C", TOP, *words], stdin=subprocess.DEVNULL, capture_output=True)

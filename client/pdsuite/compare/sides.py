@@ -6,8 +6,8 @@ from dataclasses import dataclass, replace
 from pdsuite.compare.senders import Sender
 from pdsuite.programs.refusals import Refusal
 from pdsuite.run.batches import SuiteScript
-from pdsuite.scripts.config import Claim, Layer, claims_of_layers, layer_of_option
-from pdsuite.scripts.renamed import KEYS, OLD_KEYS, UNKNOWN_KEY, old_name_in_words, old_word
+from pdsuite.scripts.config import Claim, Layer, every_claim_of_layers, layer_of_option
+from pdsuite.scripts.renamed import KEYS, OLD_KEYS, UNKNOWN_KEY, old_setting_name_and_words_text, old_word_or_same_value
 from pdsuite.scripts.settings import Settings, Value, settings_as_toml, sorted_settings
 
 
@@ -33,53 +33,63 @@ class Side:
         """What its own option sets."""
         return sorted_settings(self.option.keys)
 
-    def claims_for_sender(self, common: Iterable[Claim]) -> list[Claim]:
+    def common_and_own_setting_claims(self, common: Iterable[Claim]) -> list[Claim]:
         """The claims for the sender: those that hold for both sides, but for what it lacks, and its own."""
         known = [it for it in common if it.key not in self.lacks]
         named = [
-            replace(it, key=self._key_name_here(it.key), value=self._value_word_here(it.key, it.value)) for it in known
+            replace(
+                it, key=self._current_or_old_key_name(it.key), value=self._current_or_old_value_word(it.key, it.value)
+            )
+            for it in known
         ]
-        return [*named, *claims_of_layers([self.option])]
+        return [*named, *every_claim_of_layers([self.option])]
 
     def effective_settings(self, given: Settings) -> Settings:
         """The settings that hold here, where these are given."""
         here = {key: value for key, value in given if key not in self.lacks}
-        named = {self._key_name_here(key): self._value_word_here(key, value) for key, value in here.items()}
+        named = {
+            self._current_or_old_key_name(key): self._current_or_old_value_word(key, value)
+            for key, value in here.items()
+        }
         return sorted_settings({**named, **self.option.keys})
 
     def scripts_with_effective_settings(self, scripts: Iterable[SuiteScript]) -> list[SuiteScript]:
         """Scripts under the settings that hold here."""
         return [it if it.fault else replace(it, settings=self.effective_settings(it.settings)) for it in scripts]
 
-    def adapt_to_sender(self, common: Sequence[Claim], query: Callable[[list[Claim]], list[Refusal]]) -> "Side":
+    def with_keys_that_sender_accepts(
+        self, common: Sequence[Claim], query: Callable[[list[Claim]], list[Refusal]]
+    ) -> "Side":
         """The side as its sender takes it, which is queried until it refuses nothing, by the old names of keys too."""
         side = self
-        while refused := query(side.claims_for_sender(common)):
-            side = side.without_lacking_keys(refused, may_retry=True)
+        while refused := query(side.common_and_own_setting_claims(common)):
+            side = side.with_refused_keys_dropped_or_renamed(refused, may_retry=True)
         return side
 
-    def without_lacking_keys(self, refused: Sequence[Refusal], may_retry: bool = False) -> "Side":
+    def with_refused_keys_dropped_or_renamed(self, refused: Sequence[Refusal], may_retry: bool = False) -> "Side":
         """The side without keys that its sender is found to lack; a fault where it refuses more than such a key.
 
         Who queries again gets a key by its old name, if it has one, before it counts as lacking.
         """
-        if wrong := [it for it in refused if it.reason != UNKNOWN_KEY or it.claim.place == self.option.place]:
+        if wrong := [
+            it for it in refused if it.reason != UNKNOWN_KEY or it.claim.place == self.option.file_or_option_name
+        ]:
             raise SideSettingsError(self.sender, wrong)
         refused_keys = {it.claim.key for it in refused}
         keys = {KEYS[it] if KEYS.get(it) in self.renamed else it for it in refused_keys}
         old = {it for it in keys - self.renamed if may_retry and it in OLD_KEYS}
         return replace(self, lacks=self.lacks | (keys - old), renamed=(self.renamed - keys) | old)
 
-    def _key_name_here(self, key: str) -> str:
+    def _current_or_old_key_name(self, key: str) -> str:
         """The name of a key here."""
         return OLD_KEYS[key] if key in self.renamed else key
 
-    def _value_word_here(self, key: str, value: Value) -> Value:
+    def _current_or_old_value_word(self, key: str, value: Value) -> Value:
         """The word for a value of a key here."""
-        return old_word(key, value) if key in self.renamed else value
+        return old_word_or_same_value(key, value) if key in self.renamed else value
 
 
-def make_side(sender: Sender, text: str, option: str) -> Side:
+def make_side_named_with_settings(sender: Sender, text: str, option: str) -> Side:
     """A side whose sender is called by the settings of its own option, too, which has this name and text."""
     layer = layer_of_option(text, option)
     own = settings_as_toml(sorted_settings(layer.keys)).replace("\n", ", ")
@@ -93,10 +103,10 @@ def refuse_commonly_lacked_keys(sides: Sequence[Side], claims: Iterable[Claim]) 
         raise SideSettingsError(sides[0].sender, wrong)
 
 
-def report_lacking_keys(sides: Sequence[Side], note: Callable[[str], None]) -> None:
+def note_renamed_and_lacking_keys(sides: Sequence[Side], note: Callable[[str], None]) -> None:
     """Says once of each key that a sender has by its old name, and of each that it lacks, where it has no effect."""
     for side in sides:
         for key in sorted(side.renamed):
-            note(f"pdsuite: {side.sender}: the setting {key} is {old_name_in_words(key)} there")
+            note(f"pdsuite: {side.sender}: the setting {key} is {old_setting_name_and_words_text(key)} there")
         for key in sorted(side.lacks):
             note(f"pdsuite: {side.sender}: there is no setting {key}, which counts as its default")

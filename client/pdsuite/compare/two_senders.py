@@ -7,22 +7,27 @@ from dataclasses import dataclass
 from itertools import chain
 from pathlib import Path
 
-from pdsuite.compare.affected import RowStarts, collect_build_outputs, run_starts_on_programs
+from pdsuite.compare.affected import RowStarts, tree_outputs_after_isolated_reruns, run_starts_on_programs
 from pdsuite.compare.comparison import SenderResults
-from pdsuite.compare.sides import Side, refuse_commonly_lacked_keys, report_lacking_keys
+from pdsuite.compare.sides import Side, refuse_commonly_lacked_keys, note_renamed_and_lacking_keys
 from pdsuite.programs.batch_protocol import ProgramAnswer, ProcessOutput
 from pdsuite.programs.locate import RECORD, REGRESS
 from pdsuite.programs.program import Program
 from pdsuite.programs.protocol import Cause
 from pdsuite.programs.recorder import Recorder, Recording
-from pdsuite.programs.refusals import find_refusals
+from pdsuite.programs.refusals import query_refused_settings_retrying_once
 from pdsuite.programs.unproved_batch import ProgramCases, build_and_run_cases
-from pdsuite.run.batches import SuiteScript, group_into_batches
+from pdsuite.run.batches import SuiteScript, batch_scripts_by_equal_settings
 from pdsuite.run.explainer import EXPLAIN_FAILURES
 from pdsuite.run.local_mapper import local_mapper
 from pdsuite.run.outcomes import ScriptOutcome
 from pdsuite.run.run_batches import SettledPiece
-from pdsuite.run.unproved_run import UnprovedPlan, UnprovedResults, make_plan, results_from_answers
+from pdsuite.run.unproved_run import (
+    UnprovedPlan,
+    UnprovedResults,
+    load_scripts_and_make_plan,
+    results_after_rerunning_unanswered,
+)
 from pdsuite.scripts.config import Claim
 from pdsuite.scripts.text import ScriptText
 from pdsuite.signals import Stop
@@ -43,40 +48,46 @@ class ComparisonTask:
     records: bool
     row_starts: RowStarts | None = None
 
-    def make_side_plan(self, side: Side) -> UnprovedPlan:
+    def make_unproved_script_plan_for_side(self, side: Side) -> UnprovedPlan:
         """What a sender is started on that has to be built."""
-        batches = group_into_batches(side.scripts_with_effective_settings(self.scripts))
-        return make_plan(batches, side.claims_for_sender(self.claims), EXPLAIN_FAILURES, self.records)
+        batches = batch_scripts_by_equal_settings(side.scripts_with_effective_settings(self.scripts))
+        return load_scripts_and_make_plan(
+            batches, side.common_and_own_setting_claims(self.claims), EXPLAIN_FAILURES, self.records
+        )
 
 
 def run_both_senders(
     sides: Sequence[Side], task: ComparisonTask, workers: int, stop: Stop, note: Callable[[str], None]
 ) -> list[SenderResults]:
     """The results of each sender, those of programs first. Each key that one of them lacks is reported once."""
-    found = [_adapt_proved_side(it, task, stop) if it.sender.has_programs else it for it in sides]
+    found = [_proved_side_with_accepted_keys(it, task, stop) if it.sender.has_programs else it for it in sides]
     if all(it.sender.has_programs for it in sides):
         refuse_commonly_lacked_keys(found, task.claims)
-    proved = _run_proved_side_by_side(found, task, workers, stop, note)
+    proved = _run_sides_with_programs_in_parallel(found, task, workers, stop, note)
     unproved_sides = _UnprovedSides([it for it in found if not it.sender.has_programs], task, stop, note)
     unproved = iter(unproved_sides.sides)
     found = [it if it.sender.has_programs else next(unproved) for it in found]
     refuse_commonly_lacked_keys(found, task.claims)
-    report_lacking_keys(found, note)
-    results = iter(unproved_sides.collect_results())
+    note_renamed_and_lacking_keys(found, note)
+    results = iter(unproved_sides.collect_results_rerunning_refused())
     return [next(results) if it is None else it for it in proved]
 
 
-def _run_proved_side_by_side(
+def _run_sides_with_programs_in_parallel(
     sides: Sequence[Side], task: ComparisonTask, workers: int, stop: Stop, note: Callable[[str], None]
 ) -> list[SenderResults | None]:
     """The results of each sender that has programs; notes on one come after notes on those before it."""
     notes: list[list[str]] = [[] for _ in sides]
 
-    def run_if_proved(side: Side, lines: list[str]) -> SenderResults | None:
-        return _run_proved_side(side, task, workers, stop, lines.append) if side.sender.has_programs else None
+    def run_side_if_it_has_programs(side: Side, lines: list[str]) -> SenderResults | None:
+        return (
+            _run_and_record_side_with_programs(side, task, workers, stop, lines.append)
+            if side.sender.has_programs
+            else None
+        )
 
     with ThreadPoolExecutor(len(sides)) as pool:
-        found = list(pool.map(run_if_proved, sides, notes))
+        found = list(pool.map(run_side_if_it_has_programs, sides, notes))
     for line in chain.from_iterable(notes):
         note(line)
     return found
@@ -87,51 +98,62 @@ class _UnprovedSides:
 
     def __init__(self, sides: Sequence[Side], task: ComparisonTask, stop: Stop, note: Callable[[str], None]) -> None:
         self._task, self._stop, self._note = task, stop, note
-        self._plans = [task.make_side_plan(it) for it in sides]
-        cases = [self._program_cases(side, plan) for side, plan in zip(sides, self._plans)]
+        self._plans = [task.make_unproved_script_plan_for_side(it) for it in sides]
+        cases = [self._script_and_row_cases_of_tree(side, plan) for side, plan in zip(sides, self._plans)]
         answers = iter(build_and_run_cases([it for each in cases for it in each], stop))
         self._answers = [[next(answers) for _ in each] for each in cases]
-        self._tried = [self._read_script_answers(*it) for it in zip(sides, self._plans, self._answers)]
-        self.sides = [side.without_lacking_keys(it.refused) for side, it in zip(sides, self._tried)]
+        self._tried = [self._results_from_script_answers(*it) for it in zip(sides, self._plans, self._answers)]
+        self.sides = [side.with_refused_keys_dropped_or_renamed(it.refused) for side, it in zip(sides, self._tried)]
 
-    def collect_results(self) -> list[SenderResults]:
+    def collect_results_rerunning_refused(self) -> list[SenderResults]:
         """The results of each. One that refused a key is built again, to run without it."""
-        return [self._collect_result(*it) for it in zip(self.sides, self._tried, self._answers)]
+        return [self._collect_result_rerunning_if_refused(*it) for it in zip(self.sides, self._tried, self._answers)]
 
-    def _collect_result(
+    def _collect_result_rerunning_if_refused(
         self, side: Side, results: UnprovedResults, answers: Sequence[Sequence[ProgramAnswer]]
     ) -> SenderResults:
-        row_starts, tree = self._task.row_starts, side.sender.tree_to_build
+        row_starts, tree = self._task.row_starts, side.sender.known_tree_to_build
         if results.refused:
-            plan = self._task.make_side_plan(side)
-            results = self._read_script_answers(side, plan, build_and_run_cases(plan.program_cases(tree), self._stop))
+            plan = self._task.make_unproved_script_plan_for_side(side)
+            results = self._results_from_script_answers(
+                side, plan, build_and_run_cases(plan.cases_for_claims_batches_and_recordings(tree), self._stop)
+            )
         outputs = (
-            collect_build_outputs(row_starts, answers[_OF_SCRIPTS:], tree, self._stop, self._note) if row_starts else []
+            tree_outputs_after_isolated_reruns(row_starts, answers[_OF_SCRIPTS:], tree, self._stop, self._note)
+            if row_starts
+            else []
         )
-        return _gather_results(results.settled, results.recordings, outputs)
+        return _merge_pieces_into_sender_results(results.settled, results.recordings, outputs)
 
-    def _program_cases(self, side: Side, plan: UnprovedPlan) -> list[ProgramCases]:
+    def _script_and_row_cases_of_tree(self, side: Side, plan: UnprovedPlan) -> list[ProgramCases]:
         """What a tree's programs are started on: the scripts, and then the rows."""
-        row_starts, tree = self._task.row_starts, side.sender.tree_to_build
-        return [*plan.program_cases(tree), *(row_starts.program_cases(tree) if row_starts else [])]
+        row_starts, tree = self._task.row_starts, side.sender.known_tree_to_build
+        return [
+            *plan.cases_for_claims_batches_and_recordings(tree),
+            *(row_starts.cases_of_pdregress_and_pdrecord(tree) if row_starts else []),
+        ]
 
-    def _read_script_answers(
+    def _results_from_script_answers(
         self, side: Side, plan: UnprovedPlan, answers: Sequence[Sequence[ProgramAnswer]]
     ) -> UnprovedResults:
-        return results_from_answers(plan, answers[:_OF_SCRIPTS], side.sender.tree_to_build, self._stop, self._note)
+        return results_after_rerunning_unanswered(
+            plan, answers[:_OF_SCRIPTS], side.sender.known_tree_to_build, self._stop, self._note
+        )
 
 
-def _adapt_proved_side(side: Side, task: ComparisonTask, stop: Stop) -> Side:
+def _proved_side_with_accepted_keys(side: Side, task: ComparisonTask, stop: Stop) -> Side:
     """A side of programs, without the keys that they lack."""
     program = _side_programs(side)[REGRESS]
-    return side.adapt_to_sender(task.claims, lambda claims: find_refusals(claims, lambda: Program([program], stop)))
+    return side.with_keys_that_sender_accepts(
+        task.claims, lambda claims: query_refused_settings_retrying_once(claims, lambda: Program([program], stop))
+    )
 
 
 def _side_programs(side: Side) -> dict[str, Path]:
     return side.sender.programs or {}
 
 
-def _gather_results(
+def _merge_pieces_into_sender_results(
     settled: Iterable[SettledPiece], recordings: Mapping[int, Recording], outputs: Sequence[ProcessOutput]
 ) -> SenderResults:
     outcomes: dict[int, ScriptOutcome] = {}
@@ -144,7 +166,7 @@ def _gather_results(
     return SenderResults(outcomes, texts, recordings, causes, outputs)
 
 
-def _run_proved_side(
+def _run_and_record_side_with_programs(
     side: Side, task: ComparisonTask, workers: int, stop: Stop, note: Callable[[str], None]
 ) -> SenderResults:
     """The results of programs."""
@@ -152,14 +174,14 @@ def _run_proved_side(
     program = programs[REGRESS]
     mapper = local_mapper(program, EXPLAIN_FAILURES, workers, stop)
     settled: list[SettledPiece] = []
-    for step in mapper(group_into_batches(side.scripts_with_effective_settings(task.scripts))):
+    for step in mapper(batch_scripts_by_equal_settings(side.scripts_with_effective_settings(task.scripts))):
         if isinstance(step, SettledPiece):
             settled.append(step)
         else:
             note(str(step))
     recordings = _record_scripts(programs[RECORD], settled, stop, note) if task.records else {}
     outputs = run_starts_on_programs(programs, task.row_starts, stop) if task.row_starts else []
-    return _gather_results(settled, recordings, outputs)
+    return _merge_pieces_into_sender_results(settled, recordings, outputs)
 
 
 def _record_scripts(
@@ -171,9 +193,9 @@ def _record_scripts(
         (script, it.texts[script.index]) for it in settled for script, _ in it.outcomes if script.index in it.texts
     ]
 
-    def record_one(each: tuple[SuiteScript, ScriptText]) -> tuple[int, Recording]:
+    def record_script_with_index(each: tuple[SuiteScript, ScriptText]) -> tuple[int, Recording]:
         script, text = each
-        return script.index, recorder.record_script(script.path, text.octets, script.settings)
+        return script.index, recorder.record_script_or_note_reason(script.path, text.octets, script.settings)
 
     with ThreadPoolExecutor(len(os.sched_getaffinity(0))) as pool:
-        return dict(pool.map(record_one, scripts))
+        return dict(pool.map(record_script_with_index, scripts))

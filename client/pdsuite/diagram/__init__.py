@@ -1,10 +1,10 @@
 """The time-sequence diagram of a script: from its recording to strokes, and from strokes to a picture.
 
-`timeline_of` reads the events of a recording with its trace and gives a `Timeline`: segments, arrivals, SACK blocks,
-staircases of cwnd and of what is outstanding, notes, and the `FailedExpectation` of a script that fails
+`timeline_if_any_packet` reads the events of a recording with its trace and gives a `Timeline`: segments, arrivals,
+SACK blocks, staircases of cwnd and of what is outstanding, notes, and the `FailedExpectation` of a script that fails
 (`failing_line`). `plot` draws that on a `Canvas`, and `pictures` turns the figure into SVG for a page, or into files.
 
-    recording --programs.trace--> TracedEvent --timeline_of--> Timeline --draw_figure--> Figure --pictures--> SVG, PNG
+    recording --programs.trace--> TracedEvent --timeline--> Timeline --draw_figure--> Figure --pictures--> SVG, PNG
 
 - What is drawn is decided in `timeline` alone, as values that tests compare; `plot` and `canvas` know of no recording.
 - The same timeline gives the same octets: ids are numbered, and nothing of the time or of the machine is in a picture.

@@ -45,12 +45,12 @@ class Size:
     ticks: int
 
     @property
-    def letter_width(self) -> float:
+    def letter_width_in_pixels(self) -> float:
         """How wide a letter is at most, on the average."""
         return self.letters * 0.6
 
     @property
-    def line_height(self) -> float:
+    def line_height_in_pixels(self) -> float:
         return self.letters * 1.5
 
 
@@ -84,12 +84,19 @@ class Canvas:
         for at, start, end, is_later in bars:
             gap = min(self.octet * 0.7, (end - start) / 4)
             low, high = start + gap, max(end - gap, start + gap + self.octet * 1.5)
-            boxes[is_later].append(box_corners(at - wide / 2 * self.unit, at + wide / 2 * self.unit, low, high))
+            boxes[is_later].append(
+                rectangle_corners_from_bounds(at - wide / 2 * self.unit, at + wide / 2 * self.unit, low, high)
+            )
         for is_later, each in boxes.items():
             if each:
                 self.octets.add_collection(
                     PolyCollection(
-                        each, facecolors=LIGHT[role], edgecolors="none", alpha=alpha_of(is_later), zorder=3, gid=role
+                        each,
+                        facecolors=LIGHT[role],
+                        edgecolors="none",
+                        alpha=alpha_paler_after_failing_line(is_later),
+                        zorder=3,
+                        gid=role,
                     ),
                     autolim=False,
                 )
@@ -113,14 +120,22 @@ class Canvas:
             chosen = [(at, octet) for at, octet, later in places if later is is_later]
             if chosen:
                 xs, ys = zip(*chosen)
-                self.octets.plot(xs, ys, linestyle="none", zorder=5, alpha=alpha_of(is_later), gid=role, **style)
+                self.octets.plot(
+                    xs,
+                    ys,
+                    linestyle="none",
+                    zorder=5,
+                    alpha=alpha_paler_after_failing_line(is_later),
+                    gid=role,
+                    **style,
+                )
         if places:
             self.legend.append((Line2D([], [], linestyle="none", **style), words))
 
-    def draw_area(self, role: str, steps: Sequence[Stair], words: str) -> None:
+    def draw_area_below_staircase(self, role: str, steps: Sequence[Stair], words: str) -> None:
         """What is on the way, as an area below its staircase."""
-        for xs, ys, is_later in _runs_of_stairs(steps, self.end):
-            alpha = 0.3 * alpha_of(is_later)
+        for xs, ys, is_later in _gapless_pieces_of_staircase(steps, self.end):
+            alpha = 0.3 * alpha_paler_after_failing_line(is_later)
             self.windows.fill_between(
                 xs, ys, step="post", color=LIGHT[role], alpha=alpha, linewidth=0, zorder=2, gid=role
             )
@@ -131,7 +146,7 @@ class Canvas:
         self, axes: Axes, role: str, steps: Sequence[Stair], words: str, wide: float, style: object = "-"
     ) -> None:
         """A staircase, pale from the failing line on."""
-        for xs, ys, is_later in _runs_of_stairs(steps, self.end):
+        for xs, ys, is_later in _gapless_pieces_of_staircase(steps, self.end):
             axes.plot(
                 xs,
                 ys,
@@ -139,20 +154,20 @@ class Canvas:
                 color=LIGHT[role],
                 linewidth=wide,
                 linestyle=style,
-                alpha=alpha_of(is_later),
+                alpha=alpha_paler_after_failing_line(is_later),
                 zorder=2.5,
                 gid=role,
             )
         if steps:
             self.legend.append((Line2D([], [], color=LIGHT[role], linewidth=wide, linestyle=style), words))
 
-    def lay_out_figure(self, title: str, labels: Sequence[PlacedLabel]) -> None:
+    def place_axes_labels_and_legend(self, title: str, labels: Sequence[PlacedLabel]) -> None:
         """Gives each part its place, once all strokes are drawn: a title, words, octets, windows, the legend."""
         size = self.size
         rows = max((it.row + 1 for it in labels if it.row is not None), default=0)
-        below = (3.2 + 1.02 * -(-len(self.legend) // size.columns)) * size.line_height
-        above = 8 + rows * size.line_height + (1.7 * size.line_height if title else 0)
-        gap = 1.2 * size.line_height
+        below = (3.2 + 1.02 * -(-len(self.legend) // size.columns)) * size.line_height_in_pixels
+        above = 8 + rows * size.line_height_in_pixels + (1.7 * size.line_height_in_pixels if title else 0)
+        gap = 1.2 * size.line_height_in_pixels
         height = above + size.octets + gap + size.windows + below
         self.figure.set_size_inches(size.width / _DPI, height / _DPI)
         wide = (size.width - size.left - size.right) / size.width
@@ -162,9 +177,9 @@ class Canvas:
         ):
             axes.set_position((size.left / size.width, bottom / height, wide, high / height))
         if title:
-            place = (size.left / size.width, 1 - size.line_height * 0.4 / height)
+            place = (size.left / size.width, 1 - size.line_height_in_pixels * 0.4 / height)
             self.figure.text(*place, title, color=LIGHT["ink"], fontsize=size.letters * 1.1, va="top", parse_math=False)
-        self._draw_labels(labels, below + size.windows + gap + size.octets, height)
+        self._draw_labels_in_rows_above_axes(labels, below + size.windows + gap + size.octets, height)
         self._draw_legend()
 
     def _add_axes(self, high: float) -> Axes:
@@ -192,13 +207,16 @@ class Canvas:
         scale = _SECOND if in_seconds else 1_000
         self.windows.xaxis.set_major_formatter(FuncFormatter(lambda it, _: f"{it / scale:,.10g}"))
 
-    def _draw_labels(self, labels: Sequence[PlacedLabel], bottom: float, height: float) -> None:
+    def _draw_labels_in_rows_above_axes(self, labels: Sequence[PlacedLabel], bottom: float, height: float) -> None:
         """The words, in rows above the octets."""
         size = self.size
         for it in labels:
             if it.row is not None:
-                place = ((size.left + it.left) / size.width, (bottom + 4 + it.row * size.line_height) / height)
-                style = {"color": LIGHT[color_name_of(it.label)], "fontsize": size.letters, "va": "bottom"}
+                place = (
+                    (size.left + it.left) / size.width,
+                    (bottom + 4 + it.row * size.line_height_in_pixels) / height,
+                )
+                style = {"color": LIGHT[color_name_of_label(it.label)], "fontsize": size.letters, "va": "bottom"}
                 alpha = 0.75 if it.label.is_later else 1.0
                 self.figure.text(*place, it.label.words, alpha=alpha, parse_math=False, **style)
 
@@ -221,7 +239,7 @@ class Canvas:
         legend.set_gid("legend")
 
 
-def box_corners(left: float, right: float, low: float, high: float) -> Box:
+def rectangle_corners_from_bounds(left: float, right: float, low: float, high: float) -> Box:
     """The corners of a box, in microseconds and octets."""
     return [(left, low), (right, low), (right, high), (left, high)]
 
@@ -232,12 +250,12 @@ def widen_to_least(low: float, high: float, least: float) -> tuple[float, float]
     return low - more, high + more
 
 
-def alpha_of(is_later: bool) -> float:
+def alpha_paler_after_failing_line(is_later: bool) -> float:
     """How pale a stroke is: what comes after the failing line is paler."""
     return _PALE if is_later else 1.0
 
 
-def _runs_of_stairs(steps: Sequence[Stair], end: float) -> Iterable[tuple[list[float], list[int], bool]]:
+def _gapless_pieces_of_staircase(steps: Sequence[Stair], end: float) -> Iterable[tuple[list[float], list[int], bool]]:
     """The pieces of a staircase, each without gaps and of one paleness, up to the next piece or the end."""
     xs: list[float] = []
     ys: list[int] = []
@@ -255,6 +273,6 @@ def _runs_of_stairs(steps: Sequence[Stair], end: float) -> Iterable[tuple[list[f
             xs, ys = (xs[-1:], ys[-1:]) if goes_on else ([], [])
 
 
-def color_name_of(label: Label) -> str:
+def color_name_of_label(label: Label) -> str:
     """The colour of a label, by its name in the palette."""
     return "again" if label.is_failure else "ink"

@@ -10,7 +10,7 @@ from matplotlib.ticker import FuncFormatter, MaxNLocator
 
 from pdsuite.diagram.canvas import SETTINGS
 from pdsuite.diagram.palette import LIGHT
-from pdsuite.diagram.pictures import clean_svg_for_page
+from pdsuite.diagram.pictures import clean_svg_for_page_without_ids
 
 _DPI = 72
 _WIDTH, _HEIGHT = 960, 230
@@ -20,13 +20,13 @@ _SIDES = (("flight", (0, (4, 2))), ("new", "-"))
 _WORDS = "Shares of the runs that are delivered after so long, before and after"
 
 
-def distribution_pictures(numbers: Sequence[Sequence[float]], names: Sequence[str], axis: str) -> str:
+def joined_distribution_svg_text(numbers: Sequence[Sequence[float]], names: Sequence[str], axis: str) -> str:
     """Two pictures of the numbers of both sides, of which a page shows the one that fits."""
     sizes = (("wide", _WIDTH, 9), ("narrow", _NARROW, 4))
-    return "".join(_draw_picture(numbers, names, axis, name, width, ticks) for name, width, ticks in sizes)
+    return "".join(_render_distribution_svg(numbers, names, axis, name, width, ticks) for name, width, ticks in sizes)
 
 
-def _draw_picture(
+def _render_distribution_svg(
     numbers: Sequence[Sequence[float]], names: Sequence[str], axis: str, name: str, width: int, ticks: int
 ) -> str:
     octets = io.BytesIO()
@@ -35,11 +35,15 @@ def _draw_picture(
         warnings.simplefilter("ignore")
         matplotlib.rcdefaults()
         matplotlib.rcParams.update(SETTINGS)
-        _draw_figure(numbers, names, axis, width, ticks).savefig(octets, format="svg", metadata={"Date": None})
-    return clean_svg_for_page(octets.getvalue().decode(), name, _WORDS)
+        _draw_cumulative_distributions(numbers, names, axis, width, ticks).savefig(
+            octets, format="svg", metadata={"Date": None}
+        )
+    return clean_svg_for_page_without_ids(octets.getvalue().decode(), name, _WORDS)
 
 
-def _draw_figure(numbers: Sequence[Sequence[float]], names: Sequence[str], axis: str, width: int, ticks: int) -> Figure:
+def _draw_cumulative_distributions(
+    numbers: Sequence[Sequence[float]], names: Sequence[str], axis: str, width: int, ticks: int
+) -> Figure:
     figure = Figure(figsize=(width / _DPI, _HEIGHT / _DPI), dpi=_DPI)
     figure.patch.set_visible(False)
     axes = figure.add_axes((62 / width, 52 / _HEIGHT, (width - 76) / width, (_HEIGHT - 84) / _HEIGHT))

@@ -3,7 +3,7 @@
 from dataclasses import dataclass
 
 from pdsuite.packetdrill.items import Call, Item, Packet
-from pdsuite.packetdrill.reader import read_items
+from pdsuite.packetdrill.reader import parse_items_until_syntax_error
 from pdsuite.programs.protocol import Cause
 
 
@@ -33,18 +33,20 @@ class FailingLine:
 
 def failing_line_of(script: str, line: int, cause: Cause) -> FailingLine | None:
     """The failing line of a script, as the program that explains reports it; None where the text has no such event."""
-    items = [it for it in read_items(script).items if isinstance(it.what, Packet | Call)]
-    expected, actual = _packet_of_key(cause, "script_packet"), _packet_of_key(cause, "actual_packet")
-    place = _place_of_failing_event(items, line, expected)
+    items = [it for it in parse_items_until_syntax_error(script).items if isinstance(it.what, Packet | Call)]
+    expected, actual = _parse_packet_of_cause_key(cause, "script_packet"), _parse_packet_of_cause_key(
+        cause, "actual_packet"
+    )
+    place = _index_of_failing_event(items, line, expected)
     if place is None:
         return None
     before = [it for it in items[:place] if _is_input(it)]
     is_input = _is_input(items[place])
-    sent = _number_of_key(cause, "sent_us")
-    first = _number_of_key(cause, "awaited_from_us")
+    sent = _integer_of_cause_key_or_none(cause, "sent_us")
+    first = _integer_of_cause_key_or_none(cause, "awaited_from_us")
     if first is None:
         first = sent
-    last = _number_of_key(cause, "awaited_until_us") if "awaited_until_us" in cause else first
+    last = _integer_of_cause_key_or_none(cause, "awaited_until_us") if "awaited_until_us" in cause else first
     return FailingLine(
         line,
         len(before) + is_input,
@@ -55,7 +57,7 @@ def failing_line_of(script: str, line: int, cause: Cause) -> FailingLine | None:
     )
 
 
-def _place_of_failing_event(items: list[Item], line: int, expected: Packet | None) -> int | None:
+def _index_of_failing_event(items: list[Item], line: int, expected: Packet | None) -> int | None:
     """The event at a line: of several the first that is the expected packet, or else the first that is an input."""
     here = [number for number, it in enumerate(items) if it.line == line]
     fit = [it for it in here if (items[it].what == expected if expected is not None else _is_input(items[it]))]
@@ -66,14 +68,14 @@ def _is_input(item: Item) -> bool:
     return not isinstance(item.what, Packet) or item.what.is_inbound
 
 
-def _packet_of_key(cause: Cause, key: str) -> Packet | None:
+def _parse_packet_of_cause_key(cause: Cause, key: str) -> Packet | None:
     """A packet of the program's words."""
     text = cause.get(key)
     if not isinstance(text, str):
         return None
-    return next((it.what for it in read_items(text).items if isinstance(it.what, Packet)), None)
+    return next((it.what for it in parse_items_until_syntax_error(text).items if isinstance(it.what, Packet)), None)
 
 
-def _number_of_key(cause: Cause, key: str) -> int | None:
+def _integer_of_cause_key_or_none(cause: Cause, key: str) -> int | None:
     value = cause.get(key)
     return value if isinstance(value, int) else None

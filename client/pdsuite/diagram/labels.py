@@ -28,7 +28,7 @@ class PlacedLabel:
     row: int | None
 
 
-def labels_of(timeline: Timeline) -> list[Label]:
+def timeline_labels_in_time_order(timeline: Timeline) -> list[Label]:
     """What has a name in a diagram, in the order of time."""
     labels = [Label(it.at, it.words, it.is_later) for it in timeline.notes]
     if timeline.failure is not None:

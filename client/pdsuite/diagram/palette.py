@@ -39,7 +39,7 @@ DARK = {
 }
 
 
-def css_rules(selector: str) -> str:
+def light_and_dark_css_variables(selector: str) -> str:
     """CSS that gives an element the colours as variables, dark ones where the reader prefers them."""
     light, dark = (_css_block(selector, it) for it in (LIGHT, DARK))
     return f"{light}\n@media screen and (prefers-color-scheme: dark) {{ {dark} }}"

@@ -8,7 +8,7 @@ from html import escape
 import matplotlib
 
 from pdsuite.diagram.canvas import NARROW, SETTINGS, WIDE, Size
-from pdsuite.diagram.palette import LIGHT, css_rules
+from pdsuite.diagram.palette import LIGHT, light_and_dark_css_variables
 from pdsuite.diagram.plot import draw_figure
 from pdsuite.diagram.timeline_parts import Timeline
 
@@ -27,38 +27,38 @@ _TITLE = "@title@"
 _LONGEST_TITLE = 120
 _NAMESPACES = 'xmlns="http://www.w3.org/2000/svg" xmlns:xlink="http://www.w3.org/1999/xlink"'
 _STYLE = (
-    f"{css_rules('svg')}\nsvg {{ background: var(--diagram-card); stroke-linejoin: round;"
+    f"{light_and_dark_css_variables('svg')}\nsvg {{ background: var(--diagram-card); stroke-linejoin: round;"
     " font-family: 'DejaVu Sans', system-ui, sans-serif }"
 )
 
 
-def svg_for_page(timeline: Timeline) -> str:
+def wide_and_narrow_svgs_for_page(timeline: Timeline) -> str:
     """Two pictures for a page, of which it shows the one that fits: for wide and for narrow windows."""
-    return _svg_picture(timeline, WIDE, "wide") + _svg_picture(timeline, NARROW, "narrow")
+    return _render_embeddable_svg(timeline, WIDE, "wide") + _render_embeddable_svg(timeline, NARROW, "narrow")
 
 
-def svg_file(timeline: Timeline, title: str) -> bytes:
+def standalone_svg_octets(timeline: Timeline, title: str) -> bytes:
     """A picture as a file of its own, dark where the reader prefers it."""
-    first, rest = _svg_picture(timeline, WIDE, "wide", _TITLE).split(">", 1)
+    first, rest = _render_embeddable_svg(timeline, WIDE, "wide", _TITLE).split(">", 1)
     text = f"{first} {_NAMESPACES}><style>{_STYLE}</style>{rest}"
-    return text.replace(_TITLE, escape(_shorten_title(title))).encode("utf-8", "replace")
+    return text.replace(_TITLE, escape(_cut_title_start_if_long(title))).encode("utf-8", "replace")
 
 
-def png_file(timeline: Timeline, title: str) -> bytes:
+def png_octets(timeline: Timeline, title: str) -> bytes:
     """A picture as dots, on white."""
-    return _save_figure(
-        timeline, WIDE, _shorten_title(title), "png", dpi=_DPI, facecolor="white", metadata={"Software": None}
+    return _render_figure_octets(
+        timeline, WIDE, _cut_title_start_if_long(title), "png", dpi=_DPI, facecolor="white", metadata={"Software": None}
     )
 
 
-def _svg_picture(timeline: Timeline, size: Size, name: str, title: str = "") -> str:
+def _render_embeddable_svg(timeline: Timeline, size: Size, name: str, title: str = "") -> str:
     """A picture as SVG that stands in another text: with classes, and colours by variables."""
-    return clean_svg_for_page(
-        _save_figure(timeline, size, title, "svg", metadata={"Date": None}).decode(), name, _WORDS
+    return clean_svg_for_page_without_ids(
+        _render_figure_octets(timeline, size, title, "svg", metadata={"Date": None}).decode(), name, _WORDS
     )
 
 
-def clean_svg_for_page(text: str, name: str, words: str) -> str:
+def clean_svg_for_page_without_ids(text: str, name: str, words: str) -> str:
     """A picture that matplotlib wrote, as it stands in a page: of a class, with words for who can't see it."""
     text = _HEAD.sub("", text)
     text = _SIZE.sub(rf'<svg class="{name}" role="img" aria-label="{words}" viewBox="\1">', text)
@@ -67,7 +67,7 @@ def clean_svg_for_page(text: str, name: str, words: str) -> str:
     return _FONT.sub(r"font-size: \1px", text)
 
 
-def _save_figure(timeline: Timeline, size: Size, title: str, form: str, **words: object) -> bytes:
+def _render_figure_octets(timeline: Timeline, size: Size, title: str, form: str, **words: object) -> bytes:
     octets = io.BytesIO()
     # Neither the user's own settings nor letters that a font hasn't make a difference.
     with matplotlib.rc_context(), warnings.catch_warnings():
@@ -78,5 +78,5 @@ def _save_figure(timeline: Timeline, size: Size, title: str, form: str, **words:
     return octets.getvalue()
 
 
-def _shorten_title(title: str) -> str:
+def _cut_title_start_if_long(title: str) -> str:
     return title if len(title) <= _LONGEST_TITLE else f"...{title[3 - _LONGEST_TITLE:]}"

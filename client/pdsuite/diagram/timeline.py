@@ -25,14 +25,14 @@ class _Moment:
     is_later: bool
 
 
-def timeline_of(events: Sequence[TracedEvent], failing: FailingLine | None = None) -> Timeline | None:
+def timeline_if_any_packet(events: Sequence[TracedEvent], failing: FailingLine | None = None) -> Timeline | None:
     """The strokes of a recording, or None where it has no packet."""
     first = next((it.moment for it in events if isinstance(it.what, Packet)), None)
     if first is None:
         return None
     moments = [
         _Moment(it.moment, it, is_later)
-        for it, is_later in zip(events, _later_flags(events, failing))
+        for it, is_later in zip(events, _after_failing_line_flags(events, failing))
         if it.moment >= first
     ]
     failure = None if failing is None else _failed_expectation(failing, moments, first)
@@ -43,21 +43,21 @@ def timeline_of(events: Sequence[TracedEvent], failing: FailingLine | None = Non
         begin=first,
         end=max(ends),
         segments=tuple(_segments_less_failing(moments, failing)),
-        arrivals=tuple(_arrivals(moments)),
+        arrivals=tuple(_arrivals_with_octet_and_flag(moments)),
         blocks=tuple(_sack_blocks(moments)),
-        acknowledged=_stairs_of(moments, lambda it: it.numeric_fact("una")),
-        edge=_stairs_of(moments, _window_edge),
-        cwnd=_stairs_of(moments, lambda it: it.numeric_fact("cwnd")),
-        ssthresh=_stairs_of(moments, _finite_ssthresh),
-        flight_size=_stairs_of(moments, _flight_size_without_pipe),
-        pipe=_stairs_of(moments, lambda it: it.numeric_fact("pipe")),
+        acknowledged=_stairs_of_value_changes(moments, lambda it: it.numeric_fact("una")),
+        edge=_stairs_of_value_changes(moments, _window_edge),
+        cwnd=_stairs_of_value_changes(moments, lambda it: it.numeric_fact("cwnd")),
+        ssthresh=_stairs_of_value_changes(moments, _finite_ssthresh),
+        flight_size=_stairs_of_value_changes(moments, _flight_size_without_pipe),
+        pipe=_stairs_of_value_changes(moments, lambda it: it.numeric_fact("pipe")),
         spans=tuple(_recovery_spans(moments)),
-        notes=_notes(moments),
+        notes=_all_notes_in_time_order(moments),
         failure=failure,
     )
 
 
-def _later_flags(events: Sequence[TracedEvent], failing: FailingLine | None) -> Iterator[bool]:
+def _after_failing_line_flags(events: Sequence[TracedEvent], failing: FailingLine | None) -> Iterator[bool]:
     """Of each event, whether it comes after the failing line: it belongs to a later input, or to an expiry after it."""
     inputs = packets = 0
     is_past = False
@@ -83,10 +83,10 @@ def _sent_segments(moments: Sequence[_Moment]) -> Iterator[Segment]:
     for it in moments:
         packet = it.event.what
         if isinstance(packet, Packet) and not packet.is_inbound:
-            start, end = _sequence_range(packet)
+            start, end = _sequence_range_with_syn_and_fin(packet)
             kind = SegmentKind.EMPTY if start == end else SegmentKind.AGAIN if start < top else SegmentKind.NEW
             top = max(top, end)
-            yield Segment(it.at, start, end, kind, _marked_flag(packet), it.is_later)
+            yield Segment(it.at, start, end, kind, _rst_syn_or_fin_flag(packet), it.is_later)
 
 
 def _segments_less_failing(moments: Sequence[_Moment], failing: FailingLine | None) -> Iterator[Segment]:
@@ -96,44 +96,44 @@ def _segments_less_failing(moments: Sequence[_Moment], failing: FailingLine | No
             yield segment
 
 
-def _sequence_range(packet: Packet) -> tuple[int, int]:
+def _sequence_range_with_syn_and_fin(packet: Packet) -> tuple[int, int]:
     """The first octet and the number after the last one; SYN and FIN count as one octet each (RFC 9293)."""
     return packet.start, packet.end + len({"S", "F"} & set(packet.flags))
 
 
-def _marked_flag(packet: Packet) -> Flag:
+def _rst_syn_or_fin_flag(packet: Packet) -> Flag:
     return next((it for it in (Flag.RST, Flag.SYN, Flag.FIN) if it.value[0] in packet.flags), Flag.NONE)
 
 
-def _arrivals(moments: Sequence[_Moment]) -> Iterator[Arrival]:
+def _arrivals_with_octet_and_flag(moments: Sequence[_Moment]) -> Iterator[Arrival]:
     before: TracedEvent | None = None
     for it in moments:
         packet = it.event.what
         if isinstance(packet, Packet) and packet.is_inbound:
-            flag = _marked_flag(packet)
+            flag = _rst_syn_or_fin_flag(packet)
             is_duplicate = _is_duplicate_ack(packet, before, it.event)
-            is_dropped = before is not None and _is_dropped(flag, before, it.event)
+            is_dropped = before is not None and _is_fin_or_rst_without_effect(flag, before, it.event)
             yield Arrival(
-                it.at, _acknowledged_octet(packet, before, it.event), flag, is_duplicate, it.is_later, is_dropped
+                it.at, _acknowledged_octet_or_una(packet, before, it.event), flag, is_duplicate, it.is_later, is_dropped
             )
         before = it.event
 
 
-def _acknowledged_octet(packet: Packet, before: TracedEvent | None, after: TracedEvent) -> int:
+def _acknowledged_octet_or_una(packet: Packet, before: TracedEvent | None, after: TracedEvent) -> int:
     """What a segment acknowledges, where that was sent and wasn't acknowledged before."""
     numbers = after if before is None or before.numeric_fact("una") is None else before
     una, top = numbers.numeric_fact("una") or 0, numbers.numeric_fact("top") or 0
     return packet.ack if packet.ack is not None and una <= packet.ack <= top else una
 
 
-def _is_dropped(flag: Flag, before: TracedEvent, after: TracedEvent) -> bool:
+def _is_fin_or_rst_without_effect(flag: Flag, before: TracedEvent, after: TracedEvent) -> bool:
     """Whether a FIN or RST changes nothing: no state is entered that it leads to."""
     if flag is Flag.FIN:
         return before.state in _AFTER_FIN or after.state not in _AFTER_FIN
-    return flag is Flag.RST and (_is_reset(before) or not _is_reset(after))
+    return flag is Flag.RST and (_is_connection_reset_after(before) or not _is_connection_reset_after(after))
 
 
-def _is_reset(event: TracedEvent) -> bool:
+def _is_connection_reset_after(event: TracedEvent) -> bool:
     return event.facts.get("connection") == "reset"
 
 
@@ -162,7 +162,9 @@ def _sack_blocks(moments: Sequence[_Moment]) -> Iterator[SackBlock]:
 # ---- stairs
 
 
-def _stairs_of(moments: Sequence[_Moment], value_of: Callable[[TracedEvent], int | None]) -> tuple[Stair, ...]:
+def _stairs_of_value_changes(
+    moments: Sequence[_Moment], value_of: Callable[[TracedEvent], int | None]
+) -> tuple[Stair, ...]:
     """A value after each event, where it isn't what it was before; of one moment the last counts."""
     steps: list[Stair] = []
     for it in moments:
@@ -196,14 +198,19 @@ def _flight_size_without_pipe(event: TracedEvent) -> int | None:
 # ---- what has a name
 
 
-def _notes(moments: Sequence[_Moment]) -> tuple[Note, ...]:
-    found = (*_timeout_notes(moments), *_recovery_notes(moments), *_drop_notes(moments), *_reset_notes(moments))
+def _all_notes_in_time_order(moments: Sequence[_Moment]) -> tuple[Note, ...]:
+    found = (
+        *_timeout_notes(moments),
+        *_notes_where_recovery_begins(moments),
+        *_notes_of_dropped_flags(moments),
+        *_note_of_first_reset(moments),
+    )
     return tuple(sorted(found, key=lambda it: it.at))
 
 
-def _drop_notes(moments: Sequence[_Moment]) -> Iterator[Note]:
+def _notes_of_dropped_flags(moments: Sequence[_Moment]) -> Iterator[Note]:
     """What arrives with a flag and isn't taken."""
-    for it in _arrivals(moments):
+    for it in _arrivals_with_octet_and_flag(moments):
         if it.is_dropped:
             yield Note(it.at, f"{it.flag.value} dropped", it.is_later)
 
@@ -214,21 +221,21 @@ def _timeout_notes(moments: Sequence[_Moment]) -> Iterator[Note]:
     for it in moments:
         if not it.event.is_input and (last is None or it.at > last.at):
             rto = "" if last is None else last.event.facts.get("RTO", "")
-            yield Note(it.at, f"timeout, RTO {_short_seconds(rto)}" if rto else "timeout", it.is_later)
+            yield Note(it.at, f"timeout, RTO {_trim_zeros_of_seconds_text(rto)}" if rto else "timeout", it.is_later)
         last = it
 
 
-def _recovery_notes(moments: Sequence[_Moment]) -> Iterator[Note]:
-    for begin, _ in _recoveries(moments):
+def _notes_where_recovery_begins(moments: Sequence[_Moment]) -> Iterator[Note]:
+    for begin, _ in _recovery_begins_and_ends(moments):
         yield Note(begin.at, _RECOVERY[begin.event.facts["recovery"]], begin.is_later)
 
 
 def _recovery_spans(moments: Sequence[_Moment]) -> Iterator[RecoverySpan]:
-    for begin, end in _recoveries(moments):
+    for begin, end in _recovery_begins_and_ends(moments):
         yield RecoverySpan(begin.at, end.at, begin.is_later)
 
 
-def _recoveries(moments: Sequence[_Moment]) -> Iterator[tuple[_Moment, _Moment]]:
+def _recovery_begins_and_ends(moments: Sequence[_Moment]) -> Iterator[tuple[_Moment, _Moment]]:
     """Where recoveries begin and end."""
     begin: _Moment | None = None
     for it in moments:
@@ -242,14 +249,14 @@ def _recoveries(moments: Sequence[_Moment]) -> Iterator[tuple[_Moment, _Moment]]
         yield begin, moments[-1]
 
 
-def _reset_notes(moments: Sequence[_Moment]) -> Iterator[Note]:
+def _note_of_first_reset(moments: Sequence[_Moment]) -> Iterator[Note]:
     """Where an RST has ended the connection."""
-    found = next((it for it in moments if _is_reset(it.event)), None)
+    found = next((it for it in moments if _is_connection_reset_after(it.event)), None)
     if found is not None:
         yield Note(found.at, "reset", found.is_later)
 
 
-def _short_seconds(text: str) -> str:
+def _trim_zeros_of_seconds_text(text: str) -> str:
     """Seconds without the zeros at their end."""
     return f"{text.rstrip('0').rstrip('.')} s"
 
@@ -271,13 +278,13 @@ def _expected_segment(failing: FailingLine, at: int, first: int) -> ExpectedSegm
         return None
     begin = at if awaited.first is None else max(first, awaited.first)
     end = begin if awaited.last is None else max(begin, awaited.last)
-    return ExpectedSegment(begin, end, *_sequence_range(awaited.packet))
+    return ExpectedSegment(begin, end, *_sequence_range_with_syn_and_fin(awaited.packet))
 
 
 def _actual_segment(failing: FailingLine, moments: Sequence[_Moment], at: int) -> Segment | None:
     if failing.actual is None:
         return None
     sent = list(_sent_segments(moments))[failing.packets : failing.packets + 1]
-    start, end = _sequence_range(failing.actual)
+    start, end = _sequence_range_with_syn_and_fin(failing.actual)
     kind = sent[0].kind if sent else SegmentKind.NEW
-    return Segment(at, start, end, kind, _marked_flag(failing.actual))
+    return Segment(at, start, end, kind, _rst_syn_or_fin_flag(failing.actual))

@@ -5,7 +5,7 @@
 packets as this sender sends them, `calls` and `profile` know what this profile doesn't run, and `rewrite` puts it all
 into the text.
 
-    text --read_items--> items --setup, kernel--> settings, or Reason
+    text --parse_items_until_syntax_error--> items --setup, kernel--> settings, or Reason
                            '---calls, packets, profile--> Rewrite --apply_rewrites--> text; Finding for each counted
 
 - Nothing of a script is run: shell commands and code are read as text, and what isn't understood is a reason.

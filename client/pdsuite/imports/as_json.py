@@ -6,7 +6,7 @@ from collections.abc import Iterable, Iterator, Sequence
 
 from pdsuite.imports.conversion import Imported, NotImported
 from pdsuite.imports.findings import Heading
-from pdsuite.imports.listing import Listed, sole_reasons_in
+from pdsuite.imports.listing import Listed, sole_reason_of_each_script
 from pdsuite.output.octets import printable_path, printable_text
 
 # Of the object, as docs/import.schema.json has it.
@@ -16,13 +16,13 @@ _encoded = json.JSONEncoder(ensure_ascii=False).encode
 
 def as_json(scripts: Sequence[Listed]) -> str:
     """The object of an import, with a line for each script."""
-    lines = ",".join(f"\n{_encoded(_script_object(it))}" for it in scripts)
+    lines = ",".join(f"\n{_encoded(_script_object_without_findings(it))}" for it in scripts)
     imported = [it.came for it in scripts if isinstance(it.came, Imported)]
     left = [it.came for it in scripts if isinstance(it.came, NotImported)]
     kept = sum(not it.changed for it in imported)
     rest = {
         "reasons": list(_reason_counts(left)),
-        "findings": list(_finding_counts(imported)),
+        "findings": list(_conversion_finding_counts(imported)),
         "total": {
             "scripts": len(scripts),
             "imported": len(imported),
@@ -35,7 +35,7 @@ def as_json(scripts: Sequence[Listed]) -> str:
     return f'{{"version": {VERSION}, "scripts": [{lines}\n], {_encoded(rest)[1:]}\n'
 
 
-def _script_object(listed: Listed) -> dict[str, object]:
+def _script_object_without_findings(listed: Listed) -> dict[str, object]:
     path = printable_path(listed.path)
     match listed.came:
         case str(reason):
@@ -51,19 +51,19 @@ def _script_object(listed: Listed) -> dict[str, object]:
 
 def _reason_counts(left: Sequence[NotImported]) -> Iterator[dict[str, object]]:
     """Each reason: how many scripts have it, and how many no other."""
-    alone = Counter(sole_reasons_in(left))
-    for words, count in _count_words(reason.words for it in left for reason in it.reasons):
+    alone = Counter(sole_reason_of_each_script(left))
+    for words, count in _word_counts_most_frequent_first(reason.words for it in left for reason in it.reasons):
         yield {"words": printable_text(words), "scripts": count, "alone": alone[words]}
 
 
-def _finding_counts(imported: Sequence[Imported]) -> Iterator[dict[str, object]]:
+def _conversion_finding_counts(imported: Sequence[Imported]) -> Iterator[dict[str, object]]:
     """What was done to scripts, below the headings that people see."""
     for heading in Heading:
         words = (it.words for script in imported for it in script.findings if it.heading is heading)
-        for word, count in _count_words(words):
+        for word, count in _word_counts_most_frequent_first(words):
             yield {"heading": heading.value, "words": printable_text(word), "count": count}
 
 
-def _count_words(words: Iterable[str]) -> list[tuple[str, int]]:
+def _word_counts_most_frequent_first(words: Iterable[str]) -> list[tuple[str, int]]:
     """Words with their counts, the most frequent first."""
     return sorted(Counter(words).items(), key=lambda it: (-it[1], it[0]))

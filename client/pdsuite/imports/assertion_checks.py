@@ -5,8 +5,8 @@ from collections.abc import Iterator, Mapping, Sequence
 from dataclasses import dataclass
 
 from pdsuite.imports.assertions import Assertion, assertion_in_comment
-from pdsuite.imports.packets import LEAST_SMSS, smss_of
-from pdsuite.packetdrill.reader import read_items
+from pdsuite.imports.packets import LEAST_SMSS, script_smss_from_first_syn
+from pdsuite.packetdrill.reader import parse_items_until_syntax_error
 from pdsuite.programs.trace import TracedEvent, traced_events_in
 
 _LINE = re.compile(r"^.*$", re.MULTILINE)
@@ -56,7 +56,7 @@ def check_assertions(script: str, recording: str, row_line: int | None, mss: int
     places = [(it.start(), found) for it in _LINE.finditer(recording) if (found := assertion_in_comment(it[0]))]
     if [it for _, it in asserted] != [it for _, it in places]:
         return [CheckedAssertion(line, it, None) for line, it in asserted]
-    smss = smss_of(read_items(script).items, mss)
+    smss = script_smss_from_first_syn(parse_items_until_syntax_error(script).items, mss)
     inputs = list(_inputs_with_states(recording))
     compared = []
     for (line, assertion), (place, _) in zip(asserted, places):
@@ -85,7 +85,7 @@ def _check_by_state(line: int, assertion: Assertion, state: CheckedState, smss: 
 def _inputs_with_states(recording: str) -> Iterator[_Input]:
     """The inputs of a recording, with the state after each."""
     events = traced_events_in(recording)
-    lossy = list(_expiry_repair_flags(events))
+    lossy = list(_expiry_repair_flag_of_each_event(events))
     acts = [number for number, it in enumerate(events) if it.is_input]
     for number, after in zip(acts, [*acts[1:], len(events)]):
         event = events[number]
@@ -93,7 +93,7 @@ def _inputs_with_states(recording: str) -> Iterator[_Input]:
         yield _Input(event.end, CheckedState(event.facts, lossy[number]), expires)
 
 
-def _expiry_repair_flags(events: Sequence[TracedEvent]) -> Iterator[bool]:
+def _expiry_repair_flag_of_each_event(events: Sequence[TracedEvent]) -> Iterator[bool]:
     """Whether the sender repairs what an expiry lost, after each event; a moment that no input has is an expiry's."""
     lost: int | None = None
     moment = 0

@@ -44,7 +44,7 @@ def parse_assertions(code: str) -> ParsedAssertions:
     assertions: list[Assertion] = []
     others: list[str] = []
     for statement in _parse_statements(code):
-        found = None if statement is None else _assertion_of_statement(statement)
+        found = None if statement is None else _assertion_of_statement_if_compared(statement)
         if found is not None:
             assertions.append(found)
         else:
@@ -73,7 +73,7 @@ def _parse_statements(code: str) -> Iterator[ast.stmt | None]:
         yield None
 
 
-def _assertion_of_statement(statement: ast.stmt) -> Assertion | None:
+def _assertion_of_statement_if_compared(statement: ast.stmt) -> Assertion | None:
     """The assertion of a statement `assert NAME == VALUE`, with a message or without, where it is compared."""
     match statement:
         case ast.Assert(ast.Compare(ast.Name(name), [ast.Eq()], [ast.Constant(int(number))])):

@@ -31,7 +31,7 @@ class Spelling:
     words: str
 
 
-def spelling_of(call: Call) -> Spelling | None:
+def profile_spelling_if_call_needs_one(call: Call) -> Spelling | None:
     """The call of this profile that stands for one which it hasn't, if one does."""
     match call.name, call.arguments:
         case "socket", (domain, kind, protocol):
@@ -40,16 +40,16 @@ def spelling_of(call: Call) -> Spelling | None:
                 arguments = (domain, _STREAM, protocol)
                 return Spelling(replace(call, arguments=arguments), f"{_NONBLOCKING} is dropped: no call blocks here")
         case "send", (descriptor, buffer, count, flags):
-            return _spell_as_write(call, descriptor, buffer, count, flags)
+            return _spell_as_write_if_no_flags(call, descriptor, buffer, count, flags)
         case "sendto", (descriptor, buffer, count, flags, "..." | "NULL", "..." | "0"):
-            return _spell_as_write(call, descriptor, buffer, count, flags)
+            return _spell_as_write_if_no_flags(call, descriptor, buffer, count, flags)
         case "sendmsg", (descriptor, message, flags):
             if found := _ONE_BUFFER.fullmatch(re.sub(r"\s", "", message)):
-                return _spell_as_write(call, descriptor, found[1], found[2], flags)
+                return _spell_as_write_if_no_flags(call, descriptor, found[1], found[2], flags)
     return None
 
 
-def _spell_as_write(call: Call, descriptor: str, buffer: str, count: str, flags: str) -> Spelling | None:
+def _spell_as_write_if_no_flags(call: Call, descriptor: str, buffer: str, count: str, flags: str) -> Spelling | None:
     """A call that sends one buffer, as `write` where it has no flags."""
     if not _NO_FLAGS.fullmatch(flags):
         return None
@@ -94,7 +94,7 @@ def sets_send_buffer(call: Call) -> bool:
     return call.name == "setsockopt" and call.arguments[1:3] == ("SOL_SOCKET", "SO_SNDBUF") and call.result == 0
 
 
-def octets_to_write(call: Call) -> int:
+def octets_to_write_or_zero(call: Call) -> int:
     """How many octets a call is to write."""
     if call.name != "write" or len(call.arguments) != 3 or not _WHOLE.fullmatch(call.arguments[2]):
         return 0

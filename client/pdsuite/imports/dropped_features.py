@@ -19,7 +19,7 @@ _DSACK = "DSACK acts here: a block tells what came twice"
 _BUFFERS = "buffers act here: they hold another count of octets"
 
 
-def acting_feature(events: Sequence[Event], place: int, kind: str, is_early: bool) -> str | None:
+def dropped_feature_explaining_failure(events: Sequence[Event], place: int, kind: str, is_early: bool) -> str | None:
     """What acts at the event at a place, by whose field of this kind a script fails; None where nothing is known.
 
     It is early where the packet left before its time.
@@ -38,7 +38,7 @@ def acting_feature(events: Sequence[Event], place: int, kind: str, is_early: boo
     for before in events[:place]:
         past.take_event(before)
     is_paced = is_early and packet.start >= past.top and not past.is_repairing_loss
-    return _PACING if is_paced else _feature_sending_data(packet, past, _has_later_time(event))
+    return _PACING if is_paced else _feature_sending_data(packet, past, _is_later_than_event_before(event))
 
 
 def _feature_sending_data(packet: Packet, past: "_History", waits: bool) -> str | None:
@@ -53,7 +53,7 @@ def _feature_sending_data(packet: Packet, past: "_History", waits: bool) -> str 
     return _CONTROL if past.is_repairing_loss else None
 
 
-def _has_later_time(event: Event) -> bool:
+def _is_later_than_event_before(event: Event) -> bool:
     """Whether an event comes later than the one before it."""
     time = event.item.time
     return time is not None and time.is_relative and (time.first is None or time.first > 0)
@@ -83,7 +83,7 @@ class _History:
         if packet.is_inbound:
             self._take_peer_packet(packet)
         elif packet.length and packet.start < self.top:
-            self.has_expired = self.has_expired or (_has_later_time(event) and packet.start == self.una)
+            self.has_expired = self.has_expired or (_is_later_than_event_before(event) and packet.start == self.una)
             self.lost = self.top
         elif packet.length:
             self.top = packet.end

@@ -40,7 +40,7 @@ class _Alike:
     otherwise: str = field(default="")
 
 
-def _ipv4_switches(*names: str) -> tuple[str, ...]:
+def _names_with_ipv4_prefix(*names: str) -> tuple[str, ...]:
     return tuple(f"net.ipv4.{name}" for name in names)
 
 
@@ -57,18 +57,18 @@ SETTINGS: Mapping[str, str] = {
 FEATURES: tuple[_Feature, ...] = (
     _Feature(
         "congestion control by name",
-        _ipv4_switches("tcp_congestion_control", "tcp_allowed_congestion_control"),
+        _names_with_ipv4_prefix("tcp_congestion_control", "tcp_allowed_congestion_control"),
         "The congestion window",
     ),
-    _Feature("RACK", _ipv4_switches("tcp_recovery"), "Loss by time"),
-    _Feature("TLP", _ipv4_switches("tcp_early_retrans"), "Tail loss probe"),
-    _Feature("F-RTO", _ipv4_switches("tcp_frto"), "After an expiry: F-RTO"),
-    _Feature("DSACK", _ipv4_switches("tcp_dsack"), "A FIN sent again"),
-    _Feature("FACK", _ipv4_switches("tcp_fack")),
-    _Feature("pacing", _ipv4_switches("tcp_pacing_ss_ratio", "tcp_pacing_ca_ratio")),
+    _Feature("RACK", _names_with_ipv4_prefix("tcp_recovery"), "Loss by time"),
+    _Feature("TLP", _names_with_ipv4_prefix("tcp_early_retrans"), "Tail loss probe"),
+    _Feature("F-RTO", _names_with_ipv4_prefix("tcp_frto"), "After an expiry: F-RTO"),
+    _Feature("DSACK", _names_with_ipv4_prefix("tcp_dsack"), "A FIN sent again"),
+    _Feature("FACK", _names_with_ipv4_prefix("tcp_fack")),
+    _Feature("pacing", _names_with_ipv4_prefix("tcp_pacing_ss_ratio", "tcp_pacing_ca_ratio")),
     _Feature(
         "offload",
-        _ipv4_switches(
+        _names_with_ipv4_prefix(
             "tcp_tso_win_divisor",
             "tcp_min_tso_segs",
             "tcp_tso_rtt_log",
@@ -80,7 +80,7 @@ FEATURES: tuple[_Feature, ...] = (
     _Feature(
         "buffers",
         (
-            *_ipv4_switches("tcp_wmem", "tcp_mem", "tcp_notsent_lowat"),
+            *_names_with_ipv4_prefix("tcp_wmem", "tcp_mem", "tcp_notsent_lowat"),
             "net.core.wmem_max",
             "net.core.wmem_default",
         ),
@@ -89,20 +89,24 @@ FEATURES: tuple[_Feature, ...] = (
     _Feature(
         "the value of the window",
         (
-            *_ipv4_switches("tcp_moderate_rcvbuf", "tcp_adv_win_scale", "tcp_app_win", "tcp_shrink_window"),
+            *_names_with_ipv4_prefix("tcp_moderate_rcvbuf", "tcp_adv_win_scale", "tcp_app_win", "tcp_shrink_window"),
             "net.core.rmem_default",
         ),
         "The value of the window",
     ),
-    _Feature("cookies", _ipv4_switches("tcp_syncookies", "tcp_fastopen", "tcp_fastopen_key")),
-    _Feature("metrics of earlier connections", _ipv4_switches("tcp_no_metrics_save", "tcp_no_ssthresh_metrics_save")),
+    _Feature("cookies", _names_with_ipv4_prefix("tcp_syncookies", "tcp_fastopen", "tcp_fastopen_key")),
+    _Feature(
+        "metrics of earlier connections", _names_with_ipv4_prefix("tcp_no_metrics_save", "tcp_no_ssthresh_metrics_save")
+    ),
     _Feature(
         "giving up",
-        _ipv4_switches("tcp_syn_retries", "tcp_synack_retries", "tcp_retries1", "tcp_retries2", "tcp_orphan_retries"),
+        _names_with_ipv4_prefix(
+            "tcp_syn_retries", "tcp_synack_retries", "tcp_retries1", "tcp_retries2", "tcp_orphan_retries"
+        ),
     ),
     _Feature(
         "limits on ACKs",
-        _ipv4_switches("tcp_invalid_ratelimit", "tcp_challenge_ack_limit"),
+        _names_with_ipv4_prefix("tcp_invalid_ratelimit", "tcp_challenge_ack_limit"),
         "How often an ACK answers",
     ),
 )

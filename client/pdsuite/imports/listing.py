@@ -21,7 +21,7 @@ class Listed:
     came: Imported | NotImported | str
 
 
-def report_lines_of(listed: Listed) -> Iterator[str]:
+def import_result_lines_of_script(listed: Listed) -> Iterator[str]:
     """The line of a script, and what stands below it."""
     path = printable_path(listed.path)
     match listed.came:
@@ -33,7 +33,7 @@ def report_lines_of(listed: Listed) -> Iterator[str]:
             yield f"{path}: imported, changed to this profile: {_count_with_noun(changed, 'packet')}"
         case NotImported(reasons):
             yield f"{path}: not imported"
-            yield from map(_reason_line, reasons)
+            yield from map(_reason_line_without_path, reasons)
 
 
 def summary_lines(scripts: Sequence[Listed]) -> Iterator[str]:
@@ -42,9 +42,9 @@ def summary_lines(scripts: Sequence[Listed]) -> Iterator[str]:
     left = [it.came for it in scripts if isinstance(it.came, NotImported)]
     findings = [finding for it in imported for finding in it.findings]
     yield from _count_table("not imported, scripts", (reason.words for it in left for reason in it.reasons))
-    yield from _count_table("not imported for this alone, scripts", sole_reasons_in(left))
+    yield from _count_table("not imported for this alone, scripts", sole_reason_of_each_script(left))
     for heading in Heading:
-        yield from _count_table(heading.value, _words_under_heading(findings, heading))
+        yield from _count_table(heading.value, _finding_words_of_heading(findings, heading))
     settings = (f"{key} = {value_as_toml(value)}" for script in imported for key, value in script.settings)
     yield from _count_table("settings, scripts", settings)
     if not all(it.is_own for it in imported):
@@ -57,24 +57,24 @@ def summary_lines(scripts: Sequence[Listed]) -> Iterator[str]:
     )
 
 
-def sole_reasons_in(left: Iterable[NotImported]) -> Iterator[str]:
+def sole_reason_of_each_script(left: Iterable[NotImported]) -> Iterator[str]:
     """The reason of each script that has no other."""
     return (it.reasons[0].words for it in left if len(it.reasons) == 1)
 
 
-def exit_status(scripts: Sequence[Listed]) -> int:
+def exit_status_by_errors_and_not_imported(scripts: Sequence[Listed]) -> int:
     """The exit status: 0 where each script is imported, 2 where one couldn't be read, else 1."""
     if any(isinstance(it.came, str) for it in scripts):
         return 2
     return 0 if all(isinstance(it.came, Imported) for it in scripts) else 1
 
 
-def _reason_line(reason: Reason) -> str:
-    what = f": {_shorten_text(reason.what)}" if reason.what else ""
-    return f"  line {reason.line}: {_shorten_text(reason.words)}{what}"
+def _reason_line_without_path(reason: Reason) -> str:
+    what = f": {_shorten_to_printable_text(reason.what)}" if reason.what else ""
+    return f"  line {reason.line}: {_shorten_to_printable_text(reason.words)}{what}"
 
 
-def _shorten_text(text: str) -> str:
+def _shorten_to_printable_text(text: str) -> str:
     return printable_text(text, _MOST)
 
 
@@ -84,10 +84,10 @@ def _count_table(heading: str, words: Iterable[str]) -> Iterator[str]:
     if counts:
         yield f"{heading}:"
         for word, count in sorted(counts.items(), key=lambda it: (-it[1], it[0])):
-            yield f"  {count:5} {_shorten_text(word)}"
+            yield f"  {count:5} {_shorten_to_printable_text(word)}"
 
 
-def _words_under_heading(findings: Iterable[Finding], heading: Heading) -> Iterator[str]:
+def _finding_words_of_heading(findings: Iterable[Finding], heading: Heading) -> Iterator[str]:
     return (it.words for it in findings if it.heading is heading)
 
 

@@ -3,7 +3,7 @@
 from collections.abc import Iterable, Sequence
 from dataclasses import dataclass, replace
 
-from pdsuite.imports.calls import octets_to_write
+from pdsuite.imports.calls import octets_to_write_or_zero
 from pdsuite.packetdrill.items import Call, Item, Packet
 
 NO_MSS = 536
@@ -33,7 +33,7 @@ class Sending:
     tolerance: int
 
 
-def smss_of(items: Iterable[Item], mss: int) -> int:
+def script_smss_from_first_syn(items: Iterable[Item], mss: int) -> int:
     """The lesser of the sender's MSS and the peer's, by the first SYN (RFC 9293, section 3.7.1)."""
     for item in items:
         if isinstance(item.what, Packet) and item.what.is_inbound:
@@ -41,14 +41,14 @@ def smss_of(items: Iterable[Item], mss: int) -> int:
     return mss
 
 
-def moments_of(items: Sequence[Item]) -> list[int | None]:
+def fixed_moments_of_items(items: Sequence[Item]) -> list[int | None]:
     """The moment of each item in microseconds after the start; None where no text has it."""
     moments: list[int | None] = []
     base: int | None = 0
     for item in items:
         time = item.time
         if time is not None:
-            if not time.is_fixed or time.first is None:
+            if not time.is_single_moment or time.first is None:
                 base = None
             elif not time.is_relative:
                 base = time.first
@@ -64,7 +64,7 @@ def writes_before_items(items: Sequence[Item], moments: Sequence[int | None]) ->
     before = []
     for item, moment in zip(items, moments):
         before.append(writes)
-        if isinstance(item.what, Call) and octets_to_write(item.what) and item.what.result > 0:
+        if isinstance(item.what, Call) and octets_to_write_or_zero(item.what) and item.what.result > 0:
             end = (writes[-1].end if writes else 1) + item.what.result
             writes = (*writes, Write(end, moment))
     return before
@@ -79,7 +79,7 @@ def packets_as_sent(packet: Packet, sending: Sending) -> tuple[tuple[Packet, ...
     pieces = _cut_at_smss(bare, sending)
     if len(pieces) > 1:
         changes.append(CUT)
-    pushed = tuple(_with_own_push_flag(it, sending) for it in pieces)
+    pushed = tuple(_with_push_flag_as_sender_sets_it(it, sending) for it in pieces)
     if any(one.flags != other.flags for one, other in zip(pieces, pushed)):
         changes.append(PUSH)
     return pushed, tuple(changes)
@@ -102,10 +102,10 @@ def _cut_at_smss(packet: Packet, sending: Sending) -> list[Packet]:
     return [*pieces[:-1], replace(pieces[-1], end=packet.end, flags=packet.flags)]
 
 
-def _with_own_push_flag(packet: Packet, sending: Sending) -> Packet:
+def _with_push_flag_as_sender_sets_it(packet: Packet, sending: Sending) -> Packet:
     if not set(packet.flags).isdisjoint("SR"):
         return packet
-    is_pushed = _has_last_queued_octet(packet, sending)
+    is_pushed = _has_last_queued_octet_if_known(packet, sending)
     if is_pushed is None or is_pushed == ("P" in packet.flags):
         return packet
     letters = [it for it in packet.flags if it != "P"]
@@ -115,7 +115,7 @@ def _with_own_push_flag(packet: Packet, sending: Sending) -> Packet:
     return replace(packet, flags="".join(letters))
 
 
-def _has_last_queued_octet(packet: Packet, sending: Sending) -> bool | None:
+def _has_last_queued_octet_if_known(packet: Packet, sending: Sending) -> bool | None:
     """Whether the packet has the last octet that is queued when it leaves.
 
     None where its last octet is that of an earlier write, and nothing says whether it left before the next one.

@@ -3,7 +3,7 @@
 import re
 from collections.abc import Iterable, Iterator, Sequence
 
-from pdsuite.imports.calls import is_run_by_profile, octets_to_write, sets_send_buffer, subject_of_call
+from pdsuite.imports.calls import is_run_by_profile, octets_to_write_or_zero, sets_send_buffer, subject_of_call
 from pdsuite.imports.findings import Reason
 from pdsuite.imports.packets import LEAST_SMSS, mss_of_syn
 from pdsuite.packetdrill.items import SECOND, Call, HeaderOption, Item, Packet, Time
@@ -32,7 +32,7 @@ def unsupported_reasons(items: Sequence[Item], has_timestamps: bool) -> Iterator
         is_header = is_header and item.time is None
         match item.what:
             case HeaderOption():
-                yield from _option_reasons(item, item.what, is_header)
+                yield from _header_option_reasons(item, item.what, is_header)
             case Packet():
                 yield from _time_reasons(item, item.what.is_inbound)
                 yield from _packet_reasons(item.line, item.what)
@@ -51,10 +51,10 @@ def is_dropped_option(option: HeaderOption) -> bool:
 def header_tolerance(items: Iterable[Item]) -> int | None:
     """The tolerance in microseconds that a header says."""
     values = _header_values_of(TOLERANCE, items)
-    return _parse_tolerance(values[-1]) if values else None
+    return _tolerance_if_in_range(values[-1]) if values else None
 
 
-def header_settings(items: Iterable[Item]) -> dict[str, int]:
+def mss_setting_of_header(items: Iterable[Item]) -> dict[str, int]:
     """The settings that a header says."""
     values = _header_values_of(MSS, items)
     octets = _parse_mss(values[-1]) if values else None
@@ -66,7 +66,7 @@ def _header_values_of(name: str, items: Iterable[Item]) -> list[str | None]:
     return [it.what.value for it in items if isinstance(it.what, HeaderOption) and it.what.name == name]
 
 
-def _option_reasons(item: Item, option: HeaderOption, is_header: bool) -> Iterator[Reason]:
+def _header_option_reasons(item: Item, option: HeaderOption, is_header: bool) -> Iterator[Reason]:
     what = f"--{option.name}" if option.value is None else f"--{option.name}={option.value}"
     if not is_header:
         yield Reason(item.line, "no script of this language", what)
@@ -74,16 +74,16 @@ def _option_reasons(item: Item, option: HeaderOption, is_header: bool) -> Iterat
         yield Reason(item.line, "MTU", what)
     elif option.name == MSS:
         if _parse_mss(option.value) is None:
-            yield Reason(item.line, f"no value of {MSS}, which takes {KEYS[MSS].accepted_values}", what)
+            yield Reason(item.line, f"no value of {MSS}, which takes {KEYS[MSS].accepted_values_text}", what)
     elif option.name == "ip_version" and not is_dropped_option(option):
         yield Reason(item.line, "IPv6", what)
     elif not is_dropped_option(option) and not (
-        option.name == TOLERANCE and _parse_tolerance(option.value) is not None
+        option.name == TOLERANCE and _tolerance_if_in_range(option.value) is not None
     ):
         yield Reason(item.line, "an option of the header", what)
 
 
-def _parse_tolerance(value: str | None) -> int | None:
+def _tolerance_if_in_range(value: str | None) -> int | None:
     """The microseconds that digits write, where they are no more than a script may say."""
     if value is None or not _DIGITS.fullmatch(value):
         return None
@@ -103,7 +103,7 @@ def _time_reasons(item: Item, acts: bool) -> Iterator[Reason]:
     time = item.time or Time(None)
     if item.is_blocking:
         yield Reason(item.line, "a blocking call", _call_text(item.what) if isinstance(item.what, Call) else "")
-    elif acts and not time.is_fixed:
+    elif acts and not time.is_single_moment:
         yield Reason(item.line, "a packet that arrives or a call, with no fixed time")
     if max(time.first or 0, time.last or 0) > _LATEST:
         yield Reason(item.line, "a time above an hour")
@@ -146,7 +146,7 @@ def _has_number_over_limit(packet: Packet) -> bool:
 def _call_reasons(line: int, call: Call) -> Iterator[Reason]:
     if not is_run_by_profile(call) and not sets_send_buffer(call):
         yield Reason(line, subject_of_call(call), _call_text(call))
-    if octets_to_write(call) > _MOST_WRITTEN:
+    if octets_to_write_or_zero(call) > _MOST_WRITTEN:
         yield Reason(line, "a number over its limit", f"{call.name}({', '.join(call.arguments)})")
 
 

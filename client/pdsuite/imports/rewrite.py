@@ -41,6 +41,6 @@ def indent_of(text: str, place: int) -> str:
     return found[0] if found and found.end() == place else ""
 
 
-def keeping_comments(mark: str, old: str, reasons: Sequence[str]) -> tuple[str, ...]:
+def comments_keeping_old_text_and_reasons(mark: str, old: str, reasons: Sequence[str]) -> tuple[str, ...]:
     """Comments that keep a piece, line by line, and then say why."""
     return (*(f"// {mark}: {line}" for line in old.split("\n")), *(f"// why: {it}" for it in reasons))

@@ -93,7 +93,7 @@ class ParsedCommand:
 
 def parse_command_text(text: str, line: int, place: CommandPlace, load: LoadSetup) -> ParsedCommand:
     """What the commands of a text mean, each by itself."""
-    lines = tuple(_setup_lines_of(text, line, load))
+    lines = tuple(_setup_lines_with_defaults_file_inlined(text, line, load))
     found = [(it, _meaning_of_setup_command(it.command, place)) for it in lines]
     reasons: list[Reason] = []
     for it, meant in found:
@@ -112,7 +112,7 @@ def _words_of_meanings(meanings: Sequence[SwitchMeaning]) -> SetupWords:
     return SetupWords(words[Use.SETTING], words[Use.FEATURE], words[Use.ALIKE])
 
 
-def join_setup_words(each: Iterable[SetupWords]) -> SetupWords:
+def merge_setup_words(each: Iterable[SetupWords]) -> SetupWords:
     """What several say together."""
     words = list(each)
     return SetupWords(
@@ -173,7 +173,7 @@ def setup_from_lines(
     return Setup({**settings, **(own or {})}, has_timestamps, tuple(reasons))
 
 
-def _setup_lines_of(text: str, line: int, load: LoadSetup) -> Iterator[SetupLine]:
+def _setup_lines_with_defaults_file_inlined(text: str, line: int, load: LoadSetup) -> Iterator[SetupLine]:
     """The commands of a text, those of a `defaults.sh` in the place of its name."""
     for command in setup_commands_in(text):
         if not isinstance(command, Defaults):
@@ -205,7 +205,9 @@ def _settings_of_switches(switches: Mapping[str, tuple[str, int]], is_kernel: bo
             yield (found.words, value == "1") if value in ("0", "1") else _unread_value_reason(name, value, line)
         elif found.use is Use.SETTING and found.words != "wscale":
             factor = 1_000 if name.endswith("_ms") else 1
-            yield _setting_in_range(found.words, _parse_scaled(value, factor), f"{name}={value}", line)
+            yield _setting_or_reason_if_out_of_range(
+                found.words, _parsed_number_times_factor(value, factor), f"{name}={value}", line
+            )
     yield from _wscale_of_buffers(switches, is_kernel)
 
 
@@ -233,19 +235,19 @@ def _settings_of_metrics(metrics: Mapping[str, tuple[str, int]], smss: int) -> I
     """What the metrics of a route say of connections whose segments have so many octets."""
     for name, (value, line) in metrics.items():
         if name == "initcwnd":
-            word = _initial_window_word(value, smss)
+            word = _initial_window_rfc_or_none(value, smss)
             yield Reason(line, "another initial window", f"{name} {value}") if word is None else (
                 "initial_window",
                 word,
             )
         elif found := _TIME.fullmatch(value):
             factor = 1_000 if found[2].startswith("m") else 1_000_000
-            yield _setting_in_range("min_rto_us", int(found[1]) * factor, f"{name} {value}", line)
+            yield _setting_or_reason_if_out_of_range("min_rto_us", int(found[1]) * factor, f"{name} {value}", line)
         else:
             yield _unread_value_reason(name, value, line)
 
 
-def _initial_window_word(value: str, smss: int) -> str | None:
+def _initial_window_rfc_or_none(value: str, smss: int) -> str | None:
     """The initial window that has so many segments (RFC 6928, section 2; RFC 5681, section 3.1)."""
     segments = int(value) if _NUMBER.fullmatch(value) else 0
     if segments == min(10, max(2, 14_600 // smss)):
@@ -253,13 +255,13 @@ def _initial_window_word(value: str, smss: int) -> str | None:
     return "rfc5681" if segments == (2 if smss > 2_190 else 3 if smss > 1_095 else 4) else None
 
 
-def _parse_scaled(value: str, factor: int) -> int | None:
+def _parsed_number_times_factor(value: str, factor: int) -> int | None:
     return int(value) * factor if _NUMBER.fullmatch(value) else None
 
 
-def _setting_in_range(key: str, number: int | None, what: str, line: int) -> Setting | Reason:
+def _setting_or_reason_if_out_of_range(key: str, number: int | None, what: str, line: int) -> Setting | Reason:
     if number is None or number not in _RANGES[key]:
-        return Reason(line, f"no value of {key}, which takes {KEYS[key].accepted_values}", what)
+        return Reason(line, f"no value of {key}, which takes {KEYS[key].accepted_values_text}", what)
     return key, number
 
 

@@ -82,7 +82,7 @@ def _split_into_commands(line: str) -> Iterator[tuple[str, ...]]:
     lexer = shlex.shlex(products, posix=True, punctuation_chars=_SIGNS)
     lexer.whitespace_split = True
     try:
-        words = _without_redirections(list(lexer))
+        words = _without_redirections_to_dev_null(list(lexer))
     except ValueError:
         yield (line.strip(),)
         return
@@ -98,7 +98,7 @@ def _split_into_commands(line: str) -> Iterator[tuple[str, ...]]:
             command = []
 
 
-def _without_redirections(words: list[str]) -> list[str]:
+def _without_redirections_to_dev_null(words: list[str]) -> list[str]:
     """The words without `> /dev/null` and `2>&1`, which change nothing of what a command does."""
     kept: list[str] = []
     rest = iter(words)

@@ -4,7 +4,7 @@ from collections.abc import Iterable
 from dataclasses import dataclass
 
 from pdsuite.imports.assertions import Assertion, parse_assertions
-from pdsuite.imports.calls import octets_to_write
+from pdsuite.imports.calls import octets_to_write_or_zero
 from pdsuite.packetdrill.items import SECOND, Call, Code, Item, Packet
 
 # The limits that are tried, in segments; a kernel has none, and so the greatest counts first.
@@ -15,11 +15,11 @@ _DUPLICATES = 3
 _CWND = "tcpi_snd_cwnd"
 
 
-def greatest_fitting_abc_limit(items: Iterable[Item], smss: int, initial_window: int) -> int:
+def fitting_or_greatest_abc_limit(items: Iterable[Item], smss: int, initial_window: int) -> int:
     """The greatest limit under which just the packets leave that a script has; where there is none, the greatest."""
     play = _SlowStart(smss, dict.fromkeys(LIMITS, initial_window))
     for item in items:
-        if not play.play_item(item):
+        if not play.play_item_returning_whether_to_go_on(item):
             break
     play.drop_unfitting_limits()
     return next(iter(play.windows), LIMITS[0])
@@ -46,22 +46,22 @@ class _SlowStart:
     shift: int = 0
     has_sent: bool = False  # since the last input
 
-    def play_item(self, item: Item) -> bool:
+    def play_item_returning_whether_to_go_on(self, item: Item) -> bool:
         """Plays an item; whether the play goes on after it."""
         if item.time is not None and (item.time.first is None or item.time.is_relative and item.time.first > _LONG):
             return False
         match item.what:
             case Packet() as packet if packet.is_inbound:
                 self.drop_unfitting_limits()
-                return self._play_inbound_packet(packet)
+                return self._play_inbound_returning_whether_to_go_on(packet)
             case Packet() as packet:
-                return self._play_sent_packet(packet)
+                return self._play_sent_returning_whether_to_go_on(packet)
             case Call() as call:
                 self.drop_unfitting_limits()
-                self.queued += max(0, call.result) if octets_to_write(call) else 0
+                self.queued += max(0, call.result) if octets_to_write_or_zero(call) else 0
                 return call.name != "close"
             case Code() as code:
-                self._keep_limits_asserted(parse_assertions(code.text).assertions)
+                self._drop_limits_contradicting_asserted_cwnd(parse_assertions(code.text).assertions)
         return True
 
     def drop_unfitting_limits(self) -> None:
@@ -75,7 +75,7 @@ class _SlowStart:
                 del self.windows[limit]
         self.has_sent = False
 
-    def _play_inbound_packet(self, packet: Packet) -> bool:
+    def _play_inbound_returning_whether_to_go_on(self, packet: Packet) -> bool:
         """Takes a packet of the peer, up to a loss or to one that no sender of data is sent."""
         if "S" in packet.flags:
             scales = [it.numbers[0] for it in packet.options if it.name == "wscale"]
@@ -94,7 +94,7 @@ class _SlowStart:
         sacked = sum(end - begin for it in blocks for begin, end in zip(it[::2], it[1::2]))
         return self.duplicates < _DUPLICATES and sacked < _DUPLICATES * self.smss
 
-    def _play_sent_packet(self, packet: Packet) -> bool:
+    def _play_sent_returning_whether_to_go_on(self, packet: Packet) -> bool:
         """Takes a packet of the sender, up to one that is sent again."""
         if packet.length and "S" not in packet.flags:
             if packet.start < self.top:
@@ -102,7 +102,7 @@ class _SlowStart:
             self.top, self.has_sent = packet.end, True
         return True
 
-    def _keep_limits_asserted(self, assertions: Iterable[Assertion]) -> None:
+    def _drop_limits_contradicting_asserted_cwnd(self, assertions: Iterable[Assertion]) -> None:
         """Leaves out limits under which cwnd isn't what code asserts."""
         for it in assertions:
             if it.name == _CWND:

@@ -5,7 +5,7 @@ import os
 import textwrap
 from collections.abc import Iterator, Mapping, Sequence
 
-from pdsuite.imports.setup import SetupWords, join_setup_words
+from pdsuite.imports.setup import SetupWords, merge_setup_words
 from pdsuite.scripts.config import CONFIG_FILE
 from pdsuite.scripts.settings import Settings, settings_as_toml
 
@@ -25,7 +25,7 @@ def settings_files_of(scripts: Mapping[str, tuple[Settings, SetupWords]]) -> Ite
         if settings:
             folders.setdefault(folder, []).append((name, settings, shared))
     for folder, tables in folders.items():
-        head = _HEAD + _setup_comments(join_setup_words(it for _, _, it in tables)) + ("" if folder else _ROOT)
+        head = _HEAD + _setup_comments(merge_setup_words(it for _, _, it in tables)) + ("" if folder else _ROOT)
         text = head + "".join(table_of_script(name, settings) for name, settings, _ in tables)
         yield os.path.join(folder, CONFIG_FILE), text.encode()
 
@@ -44,7 +44,7 @@ def _wrap_comment(begin: str, words: Sequence[str]) -> str:
     return "".join(f"{line}\n" for line in lines)
 
 
-def is_toml_key(name: str) -> bool:
+def is_encodable_as_toml_key(name: str) -> bool:
     """Whether TOML can have a name as a key: it is UTF-8."""
     try:
         name.encode()

@@ -4,7 +4,7 @@ from collections.abc import Iterator, Sequence
 from dataclasses import dataclass
 
 
-from pdsuite.lsp.comments import comments_of
+from pdsuite.lsp.comments import comment_extents_up_to_syntax_fault
 from pdsuite.lsp.documents import text_edit_json
 from pdsuite.lsp.json_values import Json
 from pdsuite.lsp.packets_sent import (
@@ -12,7 +12,7 @@ from pdsuite.lsp.packets_sent import (
     event_lines_for_packets,
     parse_sent_packet,
     parse_sent_packets,
-    replace_by_sent_packet,
+    event_text_replaced_by_sent_packet,
 )
 from pdsuite.lsp.positions import DocumentLines
 from pdsuite.packetdrill.items import SECOND
@@ -22,7 +22,7 @@ from pdsuite.packetdrill.recorded import RecordedEvent, recorded_events_in, stri
 from pdsuite.packetdrill.tokens import ScriptSyntaxError, tokens_of
 from pdsuite.programs.protocol import Cause
 from pdsuite.programs.verdict import Row, Verdict
-from pdsuite.run.locate_row import failing_event
+from pdsuite.run.locate_row import find_failing_event_of_row
 
 QUICK = "quickfix"
 REWRITE = "refactor.rewrite"
@@ -51,7 +51,7 @@ class FailingScript:
     @property
     def event(self) -> Event | None:
         """The event that the row is about."""
-        return failing_event(self.row, self.cause, self.layout)
+        return find_failing_event_of_row(self.row, self.cause, self.layout)
 
     @property
     def newline(self) -> str:
@@ -68,7 +68,7 @@ def leads_past_failing_line(action: CodeAction, before: Row, after: Row) -> bool
     return after.line is not None and before.line is not None and after.line > before.line + action.shift
 
 
-def actual_taking_actions(failing: FailingScript) -> Iterator[CodeAction]:
+def actions_taking_actual_packet_or_result(failing: FailingScript) -> Iterator[CodeAction]:
     """What takes over what was sent or answered, in place of what the line says, or before it; best first."""
     event = failing.event
     if event is None:
@@ -79,25 +79,32 @@ def actual_taking_actions(failing: FailingScript) -> Iterator[CodeAction]:
         packets = [sent, *unmatched]
         count = failing.cause.get("unasked_packets")
         unexpected = packets[:count] if isinstance(count, int) else packets
-        each = [_action_inserting_packets(failing, event, unexpected), _action_taking_packet(failing, event, sent)]
+        each = [
+            _action_inserting_packets_before_event(failing, event, unexpected),
+            _action_replacing_event_by_sent_packet(failing, event, sent),
+        ]
         yield from each if count else reversed(each)
     result = failing.cause.get("actual_result")
     if isinstance(result, str) and "result" in event.field_extents:
         place = event.field_extents["result"]
-        yield CodeAction(f"Take the result {result}", QUICK, _replace_extent(failing.lines.text, place, result))
+        yield CodeAction(
+            f"Take the result {result}", QUICK, _text_with_extent_replaced(failing.lines.text, place, result)
+        )
 
 
-def _action_taking_packet(failing: FailingScript, event: Event, sent: SentPacket) -> CodeAction:
+def _action_replacing_event_by_sent_packet(failing: FailingScript, event: Event, sent: SentPacket) -> CodeAction:
     text = failing.lines.text
     with_time = failing.row.word == "time"
-    packet = replace_by_sent_packet(text, event, sent, with_time)
+    packet = event_text_replaced_by_sent_packet(text, event, sent, with_time)
     time = event.field_extents["time"]
-    is_time_alone = _replace_extent(text, time, sent.time)[event.item.start :].startswith(packet)
+    is_time_alone = _text_with_extent_replaced(text, time, sent.time)[event.item.start :].startswith(packet)
     title = "Take the time at which it was sent" if with_time and is_time_alone else "Take the packet that was sent"
-    return CodeAction(title, QUICK, _replace_extent(text, event.extent, packet))
+    return CodeAction(title, QUICK, _text_with_extent_replaced(text, event.extent, packet))
 
 
-def _action_inserting_packets(failing: FailingScript, event: Event, packets: Sequence[SentPacket]) -> CodeAction:
+def _action_inserting_packets_before_event(
+    failing: FailingScript, event: Event, packets: Sequence[SentPacket]
+) -> CodeAction:
     """Before the line come packets that no line takes."""
     text = failing.lines.text
     start = event.item.start
@@ -115,7 +122,7 @@ def commenting_out_actions(failing: FailingScript) -> Iterator[CodeAction]:
         return
     lines, event = failing.lines, failing.event
     first = min(line, lines.line_count) - 1
-    begun = _broken_event_line(failing)
+    begun = _broken_off_event_line_or_line_count(failing)
     if begun < first:
         yield _action_commenting_lines(lines, begun, first - 1, begun - first)
         yield _action_commenting_lines(lines, begun, first)
@@ -123,7 +130,7 @@ def commenting_out_actions(failing: FailingScript) -> Iterator[CodeAction]:
     if event is not None and _needs_inline_comment(failing, event, first, last):
         inside = lines.text[event.item.start : event.item.end]
         yield CodeAction(
-            "Switch it off as a comment", QUICK, _replace_extent(lines.text, event.extent, f"/* {inside} */")
+            "Switch it off as a comment", QUICK, _text_with_extent_replaced(lines.text, event.extent, f"/* {inside} */")
         )
         return
     yield _action_commenting_lines(lines, first, last)
@@ -138,7 +145,7 @@ def _action_commenting_lines(lines: DocumentLines, first: int, last: int, shift:
     return CodeAction(title, QUICK, text, shift)
 
 
-def _broken_event_line(failing: FailingScript) -> int:
+def _broken_off_event_line_or_line_count(failing: FailingScript) -> int:
     """The line in which the event begins that the text breaks off in; a large number where it isn't that."""
     if failing.row.verdict is not Verdict.SYNTAX:
         return failing.lines.line_count
@@ -162,7 +169,9 @@ def _needs_inline_comment(failing: FailingScript, event: Event, first: int, last
     begin, end = lines.line_start(first), lines.line_end(last)
     others = [it for it in failing.layout.items if it is not event]
     is_shared = any(it.item.start < end and it.item.end > begin for it in others)
-    has_comment = any(event.item.start <= it.start < event.item.end for it in comments_of(lines.text))
+    has_comment = any(
+        event.item.start <= it.start < event.item.end for it in comment_extents_up_to_syntax_fault(lines.text)
+    )
     return is_shared and not has_comment
 
 
@@ -178,10 +187,10 @@ def record_all_actions(failing: FailingScript, recording: str) -> Iterator[CodeA
         yield CodeAction("Record the whole script", REWRITE, _with_script_newlines(failing, strip_trace(recording)))
 
 
-def record_outputs_actions(failing: FailingScript, mended: str, recording: str) -> Iterator[CodeAction]:
+def actions_recording_unmatched_outputs(failing: FailingScript, mended: str, recording: str) -> Iterator[CodeAction]:
     """A script that passes, with a line for each packet that it leaves: as it stands but for these, or recorded."""
     outputs = sum(not it.is_input for it in recorded_events_in(recording))
-    if outputs <= sum(it.is_expected for it in failing.layout.events):
+    if outputs <= sum(it.is_expected_outbound_packet for it in failing.layout.packets_and_calls):
         return
     added = _with_script_newlines(failing, mended)
     if added in ("", failing.lines.text):
@@ -192,7 +201,7 @@ def record_outputs_actions(failing: FailingScript, mended: str, recording: str) 
 
 def record_from_here_actions(failing: FailingScript, recording: str) -> Iterator[CodeAction]:
     """What stands before the event, and from it on the recording: by its times, or by moments where those don't fit."""
-    event, events = failing.event, failing.layout.events
+    event, events = failing.event, failing.layout.packets_and_calls
     recorded = recorded_events_in(recording)
     if event is None or event not in events or not recorded:
         return
@@ -201,7 +210,7 @@ def record_from_here_actions(failing: FailingScript, recording: str) -> Iterator
         return
     front = _text_through_event_line(failing, passed[-1])
     outputs = sum(not it.is_input for it in passed)
-    place = _place_after_counts(recorded, len(passed) - outputs, outputs)
+    place = _event_index_after_inputs_and_outputs(recorded, len(passed) - outputs, outputs)
     unmatched = [it for it in recorded[:place] if not it.is_input][outputs:]
     stars = [f"* {recording[it.action : it.end]}\n" for it in unmatched]
     begin = recorded[place - 1].after if place else 0
@@ -217,7 +226,7 @@ def record_from_here_actions(failing: FailingScript, recording: str) -> Iterator
         yield CodeAction("Record from here to the end", QUICK, text)
 
 
-def _place_after_counts(recorded: Sequence[RecordedEvent], inputs: int, outputs: int) -> int:
+def _event_index_after_inputs_and_outputs(recorded: Sequence[RecordedEvent], inputs: int, outputs: int) -> int:
     """The place after so many inputs and so many packets that left."""
     place = 0
     for it in recorded:
@@ -245,11 +254,11 @@ def _with_script_newlines(failing: FailingScript, text: str) -> str:
     return text.replace("\n", failing.newline)
 
 
-def _replace_extent(text: str, place: Extent, put: str) -> str:
+def _text_with_extent_replaced(text: str, place: Extent, put: str) -> str:
     return text[: place.start] + put + text[place.end :]
 
 
-def edits_to_text(lines: DocumentLines, text: str) -> list[Json]:
+def minimal_whole_line_edits_to_text(lines: DocumentLines, text: str) -> list[Json]:
     """The edit that makes another text: what lies between equal first and equal last characters, in whole lines."""
     old = lines.text
     most = min(len(old), len(text))
@@ -257,11 +266,11 @@ def edits_to_text(lines: DocumentLines, text: str) -> list[Json]:
     front = old.rfind("\n", 0, front) + 1
     most -= front
     back = next((it for it in range(most) if old[-1 - it] != text[-1 - it]), most)
-    back -= _equal_end_in_line(old, text, len(old) - back)
+    back -= _equal_end_length_in_changed_line(old, text, len(old) - back)
     return [text_edit_json(lines, front, len(old) - back, text[front : len(text) - back])]
 
 
-def _equal_end_in_line(old: str, text: str, end: int) -> int:
+def _equal_end_length_in_changed_line(old: str, text: str, end: int) -> int:
     """How much of what is equal at the end belongs to a line that isn't."""
     if end == 0 or old[end - 1 : end] == "\n":
         return 0

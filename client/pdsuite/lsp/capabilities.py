@@ -75,10 +75,10 @@ def _root_folders(params: object) -> list[Path]:
         if isinstance(folders, list)
         else [nested_member_or_none(params, "rootUri")]
     )
-    return folders_of_uris([it for it in uris if isinstance(it, str)])
+    return folders_of_uris_but_root_and_home([it for it in uris if isinstance(it, str)])
 
 
-def folders_of_uris(uris: list[str]) -> list[Path]:
+def folders_of_uris_but_root_and_home(uris: list[str]) -> list[Path]:
     """The folders that these name, without those in which everything lies."""
     paths = [Path(path) for it in uris if (path := path_of_uri(it)) is not None]
     too_wide = ("/", os.path.realpath(os.path.expanduser("~")))

@@ -24,7 +24,7 @@ class CommentBlock:
     last: int
 
 
-def comments_of(text: str) -> Iterator[Extent]:
+def comment_extents_up_to_syntax_fault(text: str) -> Iterator[Extent]:
     """The comments, up to where no token of a script begins."""
     end = 0
     try:
@@ -40,10 +40,10 @@ def _comments_between(text: str, start: int, end: int) -> Iterator[Extent]:
     return (Extent(it.start(), it.end()) for it in _COMMENT.finditer(text, start, end))
 
 
-def comment_blocks_of(lines: DocumentLines) -> list[CommentBlock]:
+def whole_line_comment_blocks_of(lines: DocumentLines) -> list[CommentBlock]:
     """The blocks of comments that have lines of their own."""
     blocks: list[CommentBlock] = []
-    for comment in comments_of(lines.text):
+    for comment in comment_extents_up_to_syntax_fault(lines.text):
         first, last = lines.line_of(comment.start), lines.line_of(comment.end)
         if not _is_alone_in_lines(lines, comment):
             continue
@@ -63,21 +63,21 @@ def _is_alone_in_lines(lines: DocumentLines, comment: Extent) -> bool:
 
 def section_symbols_of(lines: DocumentLines) -> list[Json]:
     """The sections of a script: each begins with a block of comments, and is named by its first line with words."""
-    blocks = comment_blocks_of(lines)
+    blocks = whole_line_comment_blocks_of(lines)
     ends = [lines.line_end(it.first - 1) for it in blocks[1:]] + [len(lines.text)]
     return [
         {
             "name": name,
             "kind": _NAMESPACE,
             "range": lines.range_json(Extent(lines.line_start(block.first), max(end, lines.line_end(block.last)))),
-            "selectionRange": lines.range_json(lines.trimmed_line_extent(block.first)),
+            "selectionRange": lines.range_json(lines.line_extent_after_indent(block.first)),
         }
         for block, end in zip(blocks, ends)
-        if (name := _section_name(lines, block))
+        if (name := _section_name_or_empty(lines, block))
     ]
 
 
-def _section_name(lines: DocumentLines, block: CommentBlock) -> str:
+def _section_name_or_empty(lines: DocumentLines, block: CommentBlock) -> str:
     names = (_MARKS.sub("", lines.line_content(line).strip()) for line in range(block.first, block.last + 1))
     return next((it for it in names if it), "")[:_LONGEST_NAME]
 
@@ -86,7 +86,7 @@ def comment_foldings_of(lines: DocumentLines) -> list[Json]:
     """The blocks of comments that have more than one line."""
     return [
         {"startLine": _protocol_line(lines, it.first), "endLine": _protocol_line(lines, it.last), "kind": "comment"}
-        for it in comment_blocks_of(lines)
+        for it in whole_line_comment_blocks_of(lines)
         if it.first < it.last
     ]
 

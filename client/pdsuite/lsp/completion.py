@@ -103,20 +103,22 @@ def completion_items(
             "filterText": it.label,
             "sortText": f"{number:03}",
             "insertTextFormat": _TABSTOPS if takes_snippets else _PLAIN,
-            "textEdit": text_edit_json(lines, start, offset, _insert_text(it.put, takes_snippets, newline)),
+            "textEdit": text_edit_json(
+                lines, start, offset, _snippet_or_plain_insert_text(it.put, takes_snippets, newline)
+            ),
         }
         for number, it in enumerate(each)
         if it.put
     ]
 
 
-def _insert_text(put: str, takes_snippets: bool, newline: str) -> str:
+def _snippet_or_plain_insert_text(put: str, takes_snippets: bool, newline: str) -> str:
     return (put if takes_snippets else _TABSTOP.sub(lambda it: it[1] or "", put)).replace("\n", newline)
 
 
-def setting_key_proposals() -> Iterator[Proposal]:
+def proposals_for_every_setting_key() -> Iterator[Proposal]:
     """The settings, each with its default."""
     for key, it in KEYS.items():
         value = value_as_toml(it.default)
-        detail = it.accepted_values if isinstance(it, Number) else f"one of {it.accepted_values}"
+        detail = it.accepted_values_text if isinstance(it, Number) else f"one of {it.accepted_values_text}"
         yield Proposal(key, _PROPERTY, f"{key} = ${{1:{value}}}", detail)

@@ -8,12 +8,18 @@ from pdsuite.lsp.json_values import Json
 from pdsuite.lsp.positions import DocumentLines
 from pdsuite.packetdrill.layout import Event, Layout
 from pdsuite.packetdrill.lines import Extent
-from pdsuite.packetdrill.recorded import last_input_before
-from pdsuite.programs.cause_text import WORDS, dropped_segments, packet_with_sender, unmatched_packets, value_in_words
+from pdsuite.packetdrill.recorded import last_input_before_moment
+from pdsuite.programs.cause_text import (
+    WORDS,
+    dropped_segment_lines_and_rules,
+    packet_with_origin_line_or_timer,
+    unmatched_packets_with_origins,
+    value_in_words_without_unit,
+)
 from pdsuite.programs.protocol import Cause
 from pdsuite.programs.verdict import Verdict
-from pdsuite.reports.outcome_text import row_text, warning_texts
-from pdsuite.run.locate_row import locate_row
+from pdsuite.reports.outcome_text import row_text_with_expected_row, warning_texts
+from pdsuite.run.locate_row import locate_row_field_event_or_line
 from pdsuite.run.outcomes import ScriptOutcome
 
 SOURCE = "pdsuite"
@@ -75,18 +81,18 @@ def diagnostics_of(
         return
     if row.verdict is not Verdict.PASS or outcome.has_unexpected_row:
         yield Diagnostic(
-            locate_row(row, cause, layout, lines).extent,
+            locate_row_field_event_or_line(row, cause, layout, lines).extent,
             _severity(outcome),
             row.word or row.verdict.value,
             _diagnostic_message(outcome, cause),
         )
     for words in warning_texts(outcome):
-        yield Diagnostic(lines.trimmed_line_extent(0), ERROR if outcome.is_strict else WARNING, "warning", words)
+        yield Diagnostic(lines.line_extent_after_indent(0), ERROR if outcome.is_strict else WARNING, "warning", words)
 
 
 def with_unmatched_packets(diagnostic: Diagnostic, layout: Layout, cause: Cause) -> Diagnostic:
     """The diagnostic with the packets that stay unmatched, each at the event after which it left."""
-    found = [(_sending_event(it, layout), packet) for packet, it in unmatched_packets(cause)]
+    found = [(_sending_event(it, layout), packet) for packet, it in unmatched_packets_with_origins(cause)]
     related = [Related(event.extent, f"untaken packet: {packet}") for event, packet in found if event is not None]
     return replace(diagnostic, related=tuple(related))
 
@@ -95,9 +101,9 @@ def _sending_event(origin: object, layout: Layout) -> Event | None:
     """The event that sent a packet; of one that the timer sent, the last input before that, as far as times say."""
     match origin:
         case {"line": int(line)}:
-            return next((it for it in layout.events if it.item.line == line and it.is_input), None)
+            return next((it for it in layout.packets_and_calls if it.item.line == line and it.is_input), None)
         case {"timer_us": int(moment)}:
-            return last_input_before(layout.events, moment)
+            return last_input_before_moment(layout.packets_and_calls, moment)
     return None
 
 
@@ -106,14 +112,14 @@ def _severity(outcome: ScriptOutcome) -> int:
 
 
 def _diagnostic_message(outcome: ScriptOutcome, cause: Cause | None) -> str:
-    words = row_text(outcome)
+    words = row_text_with_expected_row(outcome)
     if outcome.row.verdict is Verdict.ERROR:
         words = outcome.row.word if outcome.expected is None else words
-    first = f"{words}: {_meaning_words(cause)}" if cause is not None and "what" in cause else words
-    return "\n".join([first, *_fact_lines(cause or {})])
+    first = f"{words}: {_row_meaning_or_expected_tokens(cause)}" if cause is not None and "what" in cause else words
+    return "\n".join([first, *_cause_fact_lines(cause or {})])
 
 
-def _meaning_words(cause: Mapping[str, object]) -> str:
+def _row_meaning_or_expected_tokens(cause: Mapping[str, object]) -> str:
     """What a row means, or of a text that is no script, what it lacks, as `run` says it."""
     match cause.get("expected"):
         case [*before, last]:
@@ -123,14 +129,16 @@ def _meaning_words(cause: Mapping[str, object]) -> str:
     return str(cause["what"])
 
 
-def _fact_lines(cause: Mapping[str, object]) -> Iterator[str]:
+def _cause_fact_lines(cause: Mapping[str, object]) -> Iterator[str]:
     for key, words in {**WORDS, **_MORE}.items():
         if key in cause and key not in _LEFT_OUT:
             value = _shown_value(key, cause[key])
-            yield f"{words}: {packet_with_sender(value, cause.get('sent_by')) if key == 'actual_packet' else value}"
-    for it in dropped_segments(cause):
+            if key == "actual_packet":
+                value = packet_with_origin_line_or_timer(value, cause.get("sent_by"))
+            yield f"{words}: {value}"
+    for it in dropped_segment_lines_and_rules(cause):
         yield f"dropped: {it}"
-    count = len(list(unmatched_packets(cause)))
+    count = len(list(unmatched_packets_with_origins(cause)))
     more = cause.get("more_untaken_packets")
     count += more if isinstance(more, int) else 0
     if count:
@@ -140,4 +148,4 @@ def _fact_lines(cause: Mapping[str, object]) -> Iterator[str]:
 def _shown_value(key: str, value: object) -> str:
     if isinstance(value, list):
         return ", ".join(map(str, value))
-    return _HIDDEN.sub(" ", value_in_words(key, value))
+    return _HIDDEN.sub(" ", value_in_words_without_unit(key, value))

@@ -4,12 +4,12 @@ import hashlib
 import os
 
 from pdsuite.lsp.workspace import Result
-from pdsuite.packages import missing_module_message
+from pdsuite.packages import message_if_module_missing
 from pdsuite.page.diagram_choice import Plot
 from pdsuite.page.draw_process import FAULT
-from pdsuite.page.folder import prepare_page_folder
+from pdsuite.page.folder import prepare_page_folder_or_refuse_foreign_files
 from pdsuite.page.jobs import PageJob
-from pdsuite.page.links import FOLDER, page_file_of, plot_file_names
+from pdsuite.page.links import FOLDER, page_file_name_of, plot_file_names
 from pdsuite.page.view_model import PageEntry, table_row_of
 from pdsuite.programs.child_process import ChildProcess
 from pdsuite.reports.report_cache import cache_folder
@@ -26,9 +26,9 @@ class DiagramPage:
     def __init__(self, result: Result, sender: LiveSender) -> None:
         path = result.file.path
         folder = cache_folder() / _FOLDER / hashlib.sha256(os.fsencode(path)).hexdigest()[:_DIGITS]
-        prepare_page_folder(folder)
-        self.page = folder / FOLDER / page_file_of(path)
-        self.fault = missing_module_message("matplotlib")
+        prepare_page_folder_or_refuse_foreign_files(folder)
+        self.page = folder / FOLDER / page_file_name_of(path)
+        self.fault = message_if_module_missing("matplotlib")
         entry = PageEntry(result.outcome, result.text, Plot.NONE if self.fault else Plot.FILES, result.cause)
         regress, record = sender.program_paths
         rows = (table_row_of(result.outcome),)
@@ -39,13 +39,13 @@ class DiagramPage:
         """What can be read once the process has printed something, or has ended."""
         return self._worker.fileno()
 
-    def has_ended(self) -> bool:
+    def read_output_and_has_ended(self) -> bool:
         """Whether the page is drawn, or can't be."""
         for line in self._worker.read_lines():
             if line.startswith(FAULT):
                 self.fault = line.removeprefix(FAULT)
         if self._worker.has_ended:
-            status = self._worker.close_and_get_status()
+            status = self._worker.terminate_if_running_and_get_status()
             if status and not self.fault:
                 self.fault = f"what draws the page ended with status {status}"
         return self._worker.has_ended
@@ -53,4 +53,4 @@ class DiagramPage:
     def close(self) -> None:
         """Ends the process."""
         if not self._worker.has_ended:
-            self._worker.close_and_get_status()
+            self._worker.terminate_if_running_and_get_status()

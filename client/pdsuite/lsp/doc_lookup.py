@@ -31,7 +31,7 @@ def _read_doc_page(name: str) -> str:
         return ""
 
 
-def doc_of_field(name: str) -> str:
+def doc_of_packet_or_header_field(name: str) -> str:
     """What SCRIPTS.md says of a field of a packet, or of the header."""
     begin = _FIELDS.get(name)
     found = [it for it in _read_doc_page("SCRIPTS.md").splitlines() if begin and it.startswith(begin)]

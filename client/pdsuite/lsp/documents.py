@@ -10,11 +10,11 @@ from pdsuite.lsp.json_values import (
     MalformedMessageError,
     nested_member_or_none,
     require_member,
-    require_number,
-    require_text,
+    require_nonnegative_integer_member,
+    require_text_member,
 )
 from pdsuite.lsp.positions import DocumentLines, Position
-from pdsuite.scripts.text import ScriptText, UnfitTextError, make_text
+from pdsuite.scripts.text import ScriptText, UnfitTextError, make_newline_ended_text_within_limits
 
 _FILE = "file"
 _SAFE = "/-._~!$&'()*+,;=:@"
@@ -37,10 +37,10 @@ class Document:
         """The text as a file would hold it."""
         return self.text.encode("utf-8", "surrogatepass")
 
-    def script_or_reason(self) -> ScriptText | str:
+    def script_text_or_reason(self) -> ScriptText | str:
         """The text as a script, or why it can't be run."""
         try:
-            return make_text(self.octets)
+            return make_newline_ended_text_within_limits(self.octets)
         except UnfitTextError as unfit:
             return str(unfit)
 
@@ -55,16 +55,20 @@ class Document:
 def document_from_item(item: object) -> Document:
     """The document that a client opens."""
     version = nested_member_or_none(item, "version")
-    return Document(require_text(item, "uri"), version if isinstance(version, int) else 0, require_text(item, "text"))
+    return Document(
+        require_text_member(item, "uri"), version if isinstance(version, int) else 0, require_text_member(item, "text")
+    )
 
 
 def parse_position(value: object) -> Position:
     """A position of the protocol."""
-    return Position(require_number(value, "line"), require_number(value, "character"))
+    return Position(
+        require_nonnegative_integer_member(value, "line"), require_nonnegative_integer_member(value, "character")
+    )
 
 
 def _apply_change(lines: DocumentLines, change: object) -> str:
-    put = require_text(change, "text")
+    put = require_text_member(change, "text")
     span = nested_member_or_none(change, "range")
     if span is None:
         return put

@@ -5,16 +5,21 @@ from dataclasses import dataclass
 
 from pdsuite.compare.comparison import ComparedScript
 from pdsuite.lsp import doc_lookup
-from pdsuite.lsp.actions import CodeAction, FailingScript, edits_to_text, leads_past_failing_line
+from pdsuite.lsp.actions import CodeAction, FailingScript, minimal_whole_line_edits_to_text, leads_past_failing_line
 from pdsuite.lsp.actions import (
     commenting_out_actions,
     mend_all_actions,
     record_all_actions,
     record_from_here_actions,
-    record_outputs_actions,
+    actions_recording_unmatched_outputs,
 )
-from pdsuite.lsp.actions import actual_taking_actions
-from pdsuite.lsp.completion import completion_items, proposals_for_expected, setting_key_proposals, typed_word_start
+from pdsuite.lsp.actions import actions_taking_actual_packet_or_result
+from pdsuite.lsp.completion import (
+    completion_items,
+    proposals_for_expected,
+    proposals_for_every_setting_key,
+    typed_word_start,
+)
 from pdsuite.lsp.diagnostics import Diagnostic, diagnostics_of, with_unmatched_packets
 from pdsuite.lsp.documents import Document
 from pdsuite.lsp.hover import hover_of_event
@@ -22,7 +27,7 @@ from pdsuite.lsp.json_values import Json
 from pdsuite.lsp.positions import Position
 from pdsuite.lsp.queries import ProgramQueries
 from pdsuite.lsp.toml_positions import key_at_line
-from pdsuite.lsp.workspace import Result, Workspace, settings_path_of_uri
+from pdsuite.lsp.workspace import Result, Workspace, path_if_settings_uri
 from pdsuite.packetdrill.layout import NOTHING, Event, Layout, layout_of
 from pdsuite.packetdrill.lines import Extent
 from pdsuite.packetdrill.recorded import (
@@ -30,12 +35,12 @@ from pdsuite.packetdrill.recorded import (
     RecordedEvent,
     match_events,
     recorded_events_in,
-    tolerance_of_script,
+    tolerance_from_header_or_settings,
 )
 from pdsuite.programs.protocol import Cause
 from pdsuite.programs.verdict import Row, Verdict
-from pdsuite.run.line_diff import count_passed_events, tolerance_us_of
-from pdsuite.run.locate_row import failing_event
+from pdsuite.run.line_diff import count_passed_events, tolerance_us_of_settings
+from pdsuite.run.locate_row import find_failing_event_of_row
 from pdsuite.watch.plan_changes import WantedScript
 from pdsuite.watch.sender import LiveSender
 from pdsuite.watch.turned_scripts import EarlierBuild, ShownScripts, find_turned_scripts
@@ -91,35 +96,37 @@ class LanguageFeatures:
     def hover(self, document: Document, result: Result | None, position: Position) -> tuple[str, Extent] | None:
         """What is shown of a place, and what it is about."""
         offset = document.lines.offset_of(position)
-        if settings_path_of_uri(document.uri):
+        if path_if_settings_uri(document.uri):
             key = key_at_line(document.lines, document.lines.line_of(offset))
             words = doc_lookup.doc_of_setting(key) if key else ""
-            return (words, document.lines.trimmed_line_extent(document.lines.line_of(offset))) if words else None
+            return (words, document.lines.line_extent_after_indent(document.lines.line_of(offset))) if words else None
         event = self.layout_of_document(document).item_at(offset)
         if event is None:
             return None
-        words = hover_of_event(event, offset, *self._match_recorded_events(document, result))
+        words = hover_of_event(event, offset, *self._matched_events_and_recording(document, result))
         return (words, event.extent) if words else None
 
-    def _match_recorded_events(self, document: Document, result: Result | None) -> tuple[list[MatchedEvent], str]:
+    def _matched_events_and_recording(
+        self, document: Document, result: Result | None
+    ) -> tuple[list[MatchedEvent], str]:
         if result is None or result.text is None:
             return [], ""
         played = self._record_playable_part(document, result)
         layout = self.layout_of_document(document)
         passed = _passed_event_count(layout, result.outcome.row, result.cause)
-        allowed = tolerance_of_script(layout.items, tolerance_us_of(result.outcome.settings))
+        allowed = tolerance_from_header_or_settings(layout.items, tolerance_us_of_settings(result.outcome.settings))
         return list(match_events(played.events, played.recorded, passed, allowed)), played.text
 
     def _record_playable_part(self, document: Document, result: Result) -> _Played:
         """The recording of a script, or of as much of it as can be recorded."""
         layout = self.layout_of_document(document)
-        for text in dict.fromkeys(_recordable_texts(layout, result)):
-            recording = self.queries.recording_of_script(text, result.outcome.settings).text
+        for text in dict.fromkeys(_recordable_texts_longest_first(layout, result)):
+            recording = self.queries.script_recording_maybe_empty(text, result.outcome.settings).text
             if recorded := recorded_events_in(recording):
-                return _Played(recording, recorded, [it for it in layout.events if it.item.end <= len(text)])
+                return _Played(recording, recorded, [it for it in layout.packets_and_calls if it.item.end <= len(text)])
         return _Played("", (), ())
 
-    def working_actions(self, document: Document, result: Result, places: Extent) -> list[Offer]:
+    def actions_tested_to_lead_past_failure(self, document: Document, result: Result, places: Extent) -> list[Offer]:
         """What can be done about a script whose failing line, or warning, lies there; by a run each leads past it."""
         row = result.outcome.row
         if result.text is None or row.line is None and not result.outcome.warnings:
@@ -128,24 +135,26 @@ class LanguageFeatures:
         if not _touches_failing_lines(failing, places):
             return []
         each = list(self._candidate_actions(failing, result))
-        rows = self.queries.rows_of_texts([it.text for it in each], result.outcome.settings)
+        rows = self.queries.run_texts_for_rows([it.text for it in each], result.outcome.settings)
         good = [it for it, after in zip(each, rows) if after is not None and leads_past_failing_line(it, row, after)]
         first = {it.title: it for it in reversed(good)}
-        return [Offer(it, edits_to_text(document.lines, it.text)) for it in good if first[it.title] is it]
+        return [
+            Offer(it, minimal_whole_line_edits_to_text(document.lines, it.text)) for it in good if first[it.title] is it
+        ]
 
     def _candidate_actions(self, failing: FailingScript, result: Result) -> Iterator[CodeAction]:
         settings = result.outcome.settings
         if failing.row.verdict is Verdict.PASS:
-            recording = self.queries.recording_of_script(failing.lines.text, settings).text
-            yield from record_outputs_actions(
-                failing, self.queries.mend_script(failing.lines.text, settings), recording
+            recording = self.queries.script_recording_maybe_empty(failing.lines.text, settings).text
+            yield from actions_recording_unmatched_outputs(
+                failing, self.queries.mended_script_or_empty(failing.lines.text, settings), recording
             )
             return
-        yield from actual_taking_actions(failing)
+        yield from actions_taking_actual_packet_or_result(failing)
         if failing.row.verdict is Verdict.FAIL:
-            recording = self.queries.recording_of_script(failing.lines.text, settings).text
+            recording = self.queries.script_recording_maybe_empty(failing.lines.text, settings).text
             yield from record_from_here_actions(failing, recording)
-            yield from mend_all_actions(failing, self.queries.mend_script(failing.lines.text, settings))
+            yield from mend_all_actions(failing, self.queries.mended_script_or_empty(failing.lines.text, settings))
             yield from record_all_actions(failing, recording)
         yield from commenting_out_actions(failing)
 
@@ -154,9 +163,13 @@ class LanguageFeatures:
         lines = document.lines
         offset = lines.offset_of(position)
         newline = "\r\n" if "\r\n" in document.text else "\n"
-        if settings_path_of_uri(document.uri):
+        if path_if_settings_uri(document.uri):
             line = lines.line_content(lines.line_of(offset))
-            return completion_items(list(setting_key_proposals()), lines, offset, snippets) if "=" not in line else []
+            return (
+                completion_items(list(proposals_for_every_setting_key()), lines, offset, snippets)
+                if "=" not in line
+                else []
+            )
         settings = () if result is None else result.outcome.settings
         before = document.text[: typed_word_start(document.text, offset)]
         expected = self.queries.expected_after_text(before, settings)
@@ -174,14 +187,14 @@ class SenderSession:
 
 def turned_scripts_between(before: SenderSession, after: SenderSession) -> list[ComparedScript]:
     """The scripts that one sender turned after another."""
-    shown, now = (_shown_scripts_of(it.workspace) for it in (before, after))
+    shown, now = (_shown_scripts_from_results(it.workspace) for it in (before, after))
     queries = after.features.queries
     return find_turned_scripts(
         EarlierBuild(before.sender.program_paths), after.sender.program_paths, shown, now, queries.stop, queries.note
     )
 
 
-def _shown_scripts_of(workspace: Workspace) -> ShownScripts:
+def _shown_scripts_from_results(workspace: Workspace) -> ShownScripts:
     results = workspace.results
     wanted = {path: WantedScript(it.outcome.settings, it.text) for path, it in results.items() if it.text is not None}
     return ShownScripts({path: it.outcome for path, it in results.items()}, wanted)
@@ -201,7 +214,7 @@ def code_lenses(uri: str, result: Result | None, mark: str) -> list[Json]:
 def _lens_title(result: Result, mark: str) -> str:
     """The row, at once whose it is, since a narrow window has no room for more, and how much ran for it."""
     row = result.outcome.row
-    words = row.whole_text
+    words = row.whole_text_without_name
     if row.verdict is Verdict.PASS:
         words = ", but ".join([f"pass: {_count_with_noun(row.number, 'event')}", *result.outcome.warnings])
     if result.steps is None:
@@ -215,13 +228,13 @@ def _count_with_noun(number: int, noun: str) -> str:
 
 def _passed_event_count(layout: Layout, row: Row, cause: Cause | None) -> int:
     """How many events passed, as far as the row says."""
-    return len(layout.events) if row.verdict is Verdict.PASS else count_passed_events(layout, row, cause)
+    return len(layout.packets_and_calls) if row.verdict is Verdict.PASS else count_passed_events(layout, row, cause)
 
 
-def _recordable_texts(layout: Layout, result: Result) -> Iterator[str]:
+def _recordable_texts_longest_first(layout: Layout, result: Result) -> Iterator[str]:
     """The texts that may be recorded, the longest first: all, or what comes up to the event that ended the run."""
     row = result.outcome.row
-    event = failing_event(row, result.cause, layout)
+    event = find_failing_event_of_row(row, result.cause, layout)
     if row.verdict is Verdict.SYNTAX:
         yield layout.text[: layout.items[-1].item.end] if layout.items else ""
         return

@@ -15,23 +15,27 @@ _TIMER = "timer"
 
 def hover_of_event(event: Event, offset: int, met: Sequence[MatchedEvent], recording: str) -> str:
     """What is shown of an event, in Markdown; `met` is what the recording has of the script's events."""
-    parts = [_sent_packet_words(event, met, recording), _state_words(event, met), _doc_of_place(event, offset)]
+    parts = [
+        _sent_packet_words(event, met, recording),
+        _state_after_event_with_changes(event, met),
+        _doc_of_place(event, offset),
+    ]
     return "\n\n".join(it for it in parts if it)
 
 
-def _place_of_event(event: Event, met: Sequence[MatchedEvent]) -> int | None:
+def _index_in_matched_events(event: Event, met: Sequence[MatchedEvent]) -> int | None:
     return next((place for place, it in enumerate(met) if it.event is event), None)
 
 
 def _sent_packet_words(event: Event, met: Sequence[MatchedEvent], recording: str) -> str:
     """The packet that an expected one met, with its moment."""
-    place = _place_of_event(event, met)
-    if place is None or not event.is_expected:
+    place = _index_in_matched_events(event, met)
+    if place is None or not event.is_expected_outbound_packet:
         return ""
     recorded = met[place].recorded
     if recorded is None:
         return "Nothing was sent for it."
-    packet = f"`{recording[recorded.action : recorded.end]}` was sent at {seconds_text(recorded.moment)}"
+    packet = f"`{recording[recorded.action : recorded.end]}` was sent at {seconds_with_six_decimals(recorded.moment)}"
     return f"{packet}{_sent_by_words(place, met)}"
 
 
@@ -46,22 +50,24 @@ def _sent_by_words(place: int, met: Sequence[MatchedEvent]) -> str:
     return f", by line {inputs[-1].event.item.line}" if inputs else ""
 
 
-def _state_words(event: Event, met: Sequence[MatchedEvent]) -> str:
+def _state_after_event_with_changes(event: Event, met: Sequence[MatchedEvent]) -> str:
     """How the sender stands after an event, with what was otherwise after the event before."""
-    place = _place_of_event(event, met)
+    place = _index_in_matched_events(event, met)
     if place is None or (after := met[place].after) is None:
         return ""
     before = met[place - 1].after if place else None
-    moment = "" if event.is_expected else f" at {seconds_text(after.moment)}"
+    moment = "" if event.is_expected_outbound_packet else f" at {seconds_with_six_decimals(after.moment)}"
     facts = "\n".join(_facts_with_changes(after.state, _state_or_none(before)))
-    return f"After it{moment}: {_name_with_change(after.state, _state_or_none(before))}\n```text\n{facts}\n```"
+    return (
+        f"After it{moment}: {_state_name_with_former_name(after.state, _state_or_none(before))}\n```text\n{facts}\n```"
+    )
 
 
 def _state_or_none(recorded: RecordedEvent | None) -> SenderState | None:
     return None if recorded is None else recorded.state
 
 
-def _name_with_change(after: SenderState, before: SenderState | None) -> str:
+def _state_name_with_former_name(after: SenderState, before: SenderState | None) -> str:
     was = f", was {before.name}" if before is not None and before.name != after.name else ""
     return f"{after.name}{was}"
 
@@ -79,12 +85,12 @@ def _doc_of_place(event: Event, offset: int) -> str:
     """What the documents say of what stands at a place."""
     what = event.item.what
     if isinstance(what, HeaderOption):
-        return doc_lookup.doc_of_field("header")
+        return doc_lookup.doc_of_packet_or_header_field("header")
     if isinstance(what, Call):
         return doc_lookup.doc_of_call(what.name) if offset in event.field_extents["call"] else ""
     return next(
         (
-            doc_lookup.doc_of_field(it)
+            doc_lookup.doc_of_packet_or_header_field(it)
             for it in _FIELDS
             if it in event.field_extents and offset in event.field_extents[it]
         ),
@@ -97,6 +103,6 @@ def strip_markdown(words: str) -> str:
     return _MARKS.sub("", words)
 
 
-def seconds_text(microseconds: int) -> str:
+def seconds_with_six_decimals(microseconds: int) -> str:
     """A moment as the programs show it."""
     return f"{microseconds // SECOND}.{microseconds % SECOND:06}"

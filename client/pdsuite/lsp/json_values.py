@@ -27,7 +27,7 @@ def nested_member_or_none(value: object, *names: str) -> Any:
     return value
 
 
-def require_text(value: object, name: str) -> str:
+def require_text_member(value: object, name: str) -> str:
     """A text under a name."""
     found = require_member(value, name)
     if not isinstance(found, str):
@@ -35,7 +35,7 @@ def require_text(value: object, name: str) -> str:
     return found
 
 
-def require_list(value: object, name: str) -> list[Any]:
+def require_list_member(value: object, name: str) -> list[Any]:
     """A list under a name."""
     found = require_member(value, name)
     if not isinstance(found, list):
@@ -43,7 +43,7 @@ def require_list(value: object, name: str) -> list[Any]:
     return found
 
 
-def require_number(value: object, name: str) -> int:
+def require_nonnegative_integer_member(value: object, name: str) -> int:
     """A whole number under a name, which isn't negative."""
     found = require_member(value, name)
     if not isinstance(found, int) or isinstance(found, bool) or not 0 <= found <= _MOST:

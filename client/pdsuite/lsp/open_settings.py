@@ -4,7 +4,7 @@ import re
 from collections.abc import Callable, Iterable, Mapping, Set
 from pathlib import Path
 
-from pdsuite.scripts.config import LONGEST, Claim, Layer, shown_place
+from pdsuite.scripts.config import LONGEST, Claim, Layer, printable_path_from_working_folder
 from pdsuite.watch.settings_files import SettingsFiles
 
 
@@ -26,7 +26,7 @@ class OpenSettings(SettingsFiles):
         else:
             self._texts[path] = octets
         self._others.add(path)
-        self.layer_of_file(path)
+        self.last_good_layer_of_file(path)
 
     def faults_by_file(self) -> Mapping[Path, list[str]]:
         """The faults of each file, in the words of a run, without the file's place."""
@@ -35,20 +35,20 @@ class OpenSettings(SettingsFiles):
             known.setdefault(path, []).extend(lines)
         return {path: lines for path, lines in known.items() if lines}
 
-    def unused_table_warnings(self, held: Set[tuple[str, str]]) -> list[str]:
+    def unused_table_lines_to_print(self, held: Set[tuple[str, str]]) -> list[str]:
         """No line: tables whose scripts aren't there are among the faults."""
         self._unused = {}
-        for line in super().unused_table_warnings(held | self.scripts):
+        for line in super().unused_table_lines_to_print(held | self.scripts):
             for path in self._good:
                 if found := _file_prefix_pattern(path).match(line):
                     self._unused.setdefault(path, []).append(line[found.end() :])
                     break
         return []
 
-    def reread_changed_files(self) -> tuple[bool, bool]:
+    def reread_files_returning_whether_changed_or_torn(self) -> tuple[bool, bool]:
         """Reads again what isn't surely as it was, and of what another text counts since it was read."""
-        has_changed, is_torn = super().reread_changed_files()
-        changed = [self._reread_file(path) for path in self._others]
+        has_changed, is_torn = super().reread_files_returning_whether_changed_or_torn()
+        changed = [self._reread_file_returning_whether_taken(path) for path in self._others]
         self._others.clear()
         return has_changed or any(changed), is_torn
 
@@ -56,7 +56,11 @@ class OpenSettings(SettingsFiles):
         text = self._texts.get(path)
         if text is None:
             return super()._octets_or_fault(path)
-        return text if len(text) <= LONGEST else f"{shown_place(path)}: more than {LONGEST:,} octets"
+        return (
+            text
+            if len(text) <= LONGEST
+            else f"{printable_path_from_working_folder(path)}: more than {LONGEST:,} octets"
+        )
 
     def _parse_and_check(self, path: Path, octets: bytes | str | None) -> Layer | None:
         self._faults.pop(path, None)
@@ -72,4 +76,4 @@ class OpenSettings(SettingsFiles):
 
 def _file_prefix_pattern(path: Path) -> "re.Pattern[str]":
     """What a line begins with that is about a file: its place, with a line of it or without."""
-    return re.compile(rf"{re.escape(shown_place(path))}(?::\d+)?: ")
+    return re.compile(rf"{re.escape(printable_path_from_working_folder(path))}(?::\d+)?: ")

@@ -56,7 +56,7 @@ def parse_sent_packets(shown: object) -> list[SentPacket]:
     return [it for it in map(parse_sent_packet, each) if it is not None]
 
 
-def replace_by_sent_packet(text: str, event: Event, sent: SentPacket, with_time: bool) -> str:
+def event_text_replaced_by_sent_packet(text: str, event: Event, sent: SentPacket, with_time: bool) -> str:
     """The event with what was sent in place of what it says: only fields that it writes, and options that it lacks."""
     put = [
         it
@@ -102,17 +102,17 @@ def event_lines_for_packets(sents: Sequence[SentPacket]) -> list[str]:
             lines.append(f"{_ANY_TIME} {it.text_without_time}")
             continue
         if base is None:
-            base = it.moment - _parse_age(it.time)
-        lines.append(f"+{_seconds_text(it.moment - base)} {it.text_without_time}")
+            base = it.moment - _parse_age_in_microseconds(it.time)
+        lines.append(f"+{_seconds_without_trailing_zeros(it.moment - base)} {it.text_without_time}")
         base = it.moment
     return lines
 
 
-def _parse_age(time: str) -> int:
+def _parse_age_in_microseconds(time: str) -> int:
     found = _AGE.fullmatch(time)
     return int(found[1]) * SECOND + int((found[2] or "0").ljust(6, "0")) if found else 0
 
 
-def _seconds_text(microseconds: int) -> str:
+def _seconds_without_trailing_zeros(microseconds: int) -> str:
     whole, part = divmod(microseconds, SECOND)
     return f"{whole}.{part:06}".rstrip("0") if part else str(whole)

@@ -9,11 +9,11 @@ from pdsuite.lsp.features import SenderSession
 from pdsuite.lsp.json_values import Json
 from pdsuite.lsp.positions import DocumentLines
 from pdsuite.lsp.toml_positions import diagnostic_of_fault
-from pdsuite.lsp.workspace import Result, settings_path_of_uri
+from pdsuite.lsp.workspace import Result, path_if_settings_uri
 from pdsuite.packetdrill.layout import layout_of
 from pdsuite.packetdrill.lines import Extent
 from pdsuite.scripts.config import LONGEST
-from pdsuite.scripts.text import UnfitTextError, read_regular_file
+from pdsuite.scripts.text import UnfitTextError, read_regular_file_up_to_limit
 
 _METHOD = "textDocument/publishDiagnostics"
 # The tag of what is shown dimmed.
@@ -41,9 +41,9 @@ class Publisher:
     def publish_results(self, session: SenderSession, changed: Iterable[str], mark: str = "") -> None:
         """Sends what came of scripts that changed, with a mark if there is one, and the faults of settings files."""
         self._mark = mark
-        for path in dict.fromkeys([*changed, *self._paths_left_behind(session)]):
+        for path in dict.fromkeys([*changed, *self._switch_session_and_list_stale_paths(session)]):
             result = session.workspace.results.get(path)
-            uri = session.workspace.open_uri_of(path) or _uri_of_script(path)
+            uri = session.workspace.open_uri_of(path) or _uri_of_path_or_uri(path)
             before = self._uris.pop(path, uri)
             if before != uri:
                 self._send_if_changed(before, [], None)
@@ -52,22 +52,22 @@ class Publisher:
                 continue
             self._uris[path] = uri
             if uri in self._documents:
-                self._publish_open_script(session, self._documents[uri], result)
+                self._publish_open_script_if_same_version(session, self._documents[uri], result)
             else:
                 self._publish_script_file(uri, result)
-        self._publish_settings_faults(session.workspace.settings_faults(), session.workspace.settings_uris)
+        self._publish_settings_faults(session.workspace.settings_faults(), session.workspace.uris_of_open_settings)
 
-    def _paths_left_behind(self, session: SenderSession) -> list[str]:
+    def _switch_session_and_list_stale_paths(self, session: SenderSession) -> list[str]:
         """The scripts of what ran before, where that is something else, which this doesn't follow."""
         if session is self._session:
             return []
         self._session = session
         return [path for path in self._uris if path not in session.workspace.results]
 
-    def publish_syntax_faults(self, reason: str) -> None:
+    def publish_syntax_faults_without_sender(self, reason: str) -> None:
         """Sends the faults of open texts that are no scripts, as far as the client's own reader knows."""
         for uri, document in self._documents.items():
-            fault = None if settings_path_of_uri(uri) else layout_of(document.text).fault
+            fault = None if path_if_settings_uri(uri) else layout_of(document.text).fault
             found = (
                 []
                 if fault is None
@@ -77,17 +77,20 @@ class Publisher:
                 uri, [self._diagnostic_json(uri, document.lines, it) for it in found], document.version
             )
 
-    def clear_closed_document(self, uri: str, has_file: bool) -> None:
+    def clear_closed_document_unless_file_follows(self, uri: str, has_file: bool) -> None:
         """Takes back the diagnostics of a text that is closed, unless its file has that URI and comes next."""
         path = path_of_uri(uri)
         if path is None or uri_of_path(path) != uri or not has_file:
             self._send_if_changed(uri, [], None)
 
-    def _publish_open_script(self, session: SenderSession, document: Document, result: Result) -> None:
+    def _publish_open_script_if_same_version(self, session: SenderSession, document: Document, result: Result) -> None:
         if result.version != document.version:
             return  # the next one comes at once
         found = session.features.diagnostics(document, result)
-        diagnostics = [self._mark_diagnostic(self._diagnostic_json(document.uri, document.lines, it)) for it in found]
+        diagnostics = [
+            self._mark_diagnostic_of_stale_sender(self._diagnostic_json(document.uri, document.lines, it))
+            for it in found
+        ]
         self._published[document.uri] = diagnostics
         self._notify(_METHOD, {"uri": document.uri, "version": document.version, "diagnostics": diagnostics})
 
@@ -96,9 +99,11 @@ class Publisher:
         text = octets.decode("utf-8", "surrogateescape")
         lines = DocumentLines(text)
         found = diagnostics_of(result.outcome, result.cause, layout_of(text), lines) if result.has_diagnostics else ()
-        self._send_if_changed(uri, [self._mark_diagnostic(self._diagnostic_json(uri, lines, it)) for it in found], None)
+        self._send_if_changed(
+            uri, [self._mark_diagnostic_of_stale_sender(self._diagnostic_json(uri, lines, it)) for it in found], None
+        )
 
-    def _mark_diagnostic(self, diagnostic: Json) -> Json:
+    def _mark_diagnostic_of_stale_sender(self, diagnostic: Json) -> Json:
         """A diagnostic that says first whose it is, where its sender doesn't stand; dimmed where the client can."""
         if not self._mark:
             return diagnostic
@@ -136,14 +141,14 @@ class Publisher:
         self._notify(_METHOD, params if version is None else {**params, "version": version})
 
 
-def _uri_of_script(path: str) -> str:
+def _uri_of_path_or_uri(path: str) -> str:
     """The URI of a script's path, which is one itself where the script has no file."""
     return uri_of_path(path) if path.startswith("/") else path
 
 
 def _read_settings_text(path: Path) -> str:
     try:
-        return read_regular_file(path, LONGEST).decode("utf-8", "replace")
+        return read_regular_file_up_to_limit(path, LONGEST).decode("utf-8", "replace")
     except UnfitTextError:
         return ""
 

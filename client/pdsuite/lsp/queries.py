@@ -6,15 +6,20 @@ from pdsuite.lsp.completion import PROBE
 from pdsuite.programs.locate import REGRESS
 from pdsuite.programs.program import Program, ProgramEndedError
 from pdsuite.programs.protocol import LONGEST_CAUSE, LONGEST_LINE, SETTLE, Cause, UnexpectedAnswerError
-from pdsuite.programs.protocol import add_command, parse_causes, parse_new_rows, script_name
+from pdsuite.programs.protocol import (
+    add_command,
+    parse_causes_by_script_and_line,
+    parse_new_rows,
+    script_name_of_number,
+)
 from pdsuite.programs.recorder import MINIMAL, Recorder, Recording
-from pdsuite.programs.refusals import refusal_lines
+from pdsuite.programs.refusals import query_refusal_lines
 from pdsuite.programs.verdict import Row
 from pdsuite.run.batches import BATCH_SIZE
 from pdsuite.run.explainer import EXPLAIN, JSON, LEFTOVERS
 from pdsuite.scripts.config import Claim
 from pdsuite.scripts.settings import Settings, settings_as_toml
-from pdsuite.scripts.text import ScriptText, UnfitTextError, make_text
+from pdsuite.scripts.text import ScriptText, UnfitTextError, make_newline_ended_text_within_limits
 from pdsuite.signals import Stop
 from pdsuite.watch.sender import LiveSender
 
@@ -39,11 +44,11 @@ class ProgramQueries:
         """Starts a run that stays up and explains; SenderChangedError where another file lies at the program's path."""
         return self._start_program(settings, STEPS, EXPLAIN, LEFTOVERS, JSON, "--cache", str(BATCH_SIZE))
 
-    def refusal_lines(self, claims: Sequence[Claim]) -> list[str]:
+    def query_refusal_lines(self, claims: Sequence[Claim]) -> list[str]:
         """The lines of the settings that are refused."""
-        return refusal_lines(claims, lambda: Program([self._regress], self.stop))
+        return query_refusal_lines(claims, lambda: Program([self._regress], self.stop))
 
-    def recording_of_script(self, text: str, settings: Settings) -> Recording:
+    def script_recording_maybe_empty(self, text: str, settings: Settings) -> Recording:
         """The recording of a script with its trace; that of the same script is kept for a while."""
         octets = text.encode("utf-8", "surrogatepass")
         key = octets, settings
@@ -51,19 +56,23 @@ class ProgramQueries:
             while len(self._recordings) >= _KEPT:
                 del self._recordings[next(iter(self._recordings))]
             self.sender.require_unchanged()
-            self._recordings[key] = self._recorder.record_script("the script", octets, settings)
+            self._recordings[key] = self._recorder.record_script_or_note_reason("the script", octets, settings)
         return self._recordings[key]
 
-    def mend_script(self, text: str, settings: Settings) -> str:
+    def mended_script_or_empty(self, text: str, settings: Settings) -> str:
         """A script with the least change with which it passes; empty where there is none."""
         self.sender.require_unchanged()
-        return self._recorder.record_script("the script", text.encode("utf-8", "surrogatepass"), settings, MINIMAL).text
+        return self._recorder.record_script_or_note_reason(
+            "the script", text.encode("utf-8", "surrogatepass"), settings, MINIMAL
+        ).text
 
-    def rows_of_texts(self, texts: Sequence[str], settings: Settings) -> list[Row | None]:
+    def run_texts_for_rows(self, texts: Sequence[str], settings: Settings) -> list[Row | None]:
         """The rows of these texts; None of one that can't be a script."""
-        fit = [_text_or_none(it) for it in texts]
-        names = [script_name(number) for number, it in enumerate(fit) if it is not None]
-        commands = b"".join(add_command(script_name(number), it) for number, it in enumerate(fit) if it is not None)
+        fit = [_script_text_or_none_if_unfit(it) for it in texts]
+        names = [script_name_of_number(number) for number, it in enumerate(fit) if it is not None]
+        commands = b"".join(
+            add_command(script_name_of_number(number), it) for number, it in enumerate(fit) if it is not None
+        )
         if not names:
             return [None for _ in texts]
         with self._start_program(settings, "--cache", "1") as program:
@@ -76,13 +85,13 @@ class ProgramQueries:
 
     def expected_after_text(self, before: str, settings: Settings) -> list[str]:
         """What may stand after a text; nothing where no script begins so."""
-        text = _text_or_none(before + PROBE)
+        text = _script_text_or_none_if_unfit(before + PROBE)
         if text is None:
             return []
         with self._start_program(settings, EXPLAIN, JSON, "--cache", "1") as program:
-            errors = program.finish_and_read_errors(add_command(script_name(0), text), 2 * LONGEST_CAUSE)
+            errors = program.finish_and_read_errors(add_command(script_name_of_number(0), text), 2 * LONGEST_CAUSE)
         try:
-            cause = next(iter(parse_causes(errors).values()), None)
+            cause = next(iter(parse_causes_by_script_and_line(errors).values()), None)
         except UnexpectedAnswerError as unexpected:
             raise ProgramEndedError(f"{REGRESS}: {unexpected}") from unexpected
         return _expected_at_probe(cause, before)
@@ -97,18 +106,20 @@ def _expected_at_probe(cause: Cause | None, before: str) -> list[str]:
     """What is expected in the place of the probe, where the script breaks off there."""
     match cause:
         case {"verdict": "syntax", "line": int(line), "column": int(column), "expected": list(expected)}:
-            is_probe = line == before.count("\n") + 1 and column == _shown_length(before.rpartition("\n")[2])
+            is_probe = line == before.count("\n") + 1 and column == _length_with_unprintables_escaped(
+                before.rpartition("\n")[2]
+            )
             return [str(it) for it in expected] if is_probe else []
     return []
 
 
-def _shown_length(text: str) -> int:
+def _length_with_unprintables_escaped(text: str) -> int:
     octets = text.encode("utf-8", "surrogatepass")
     return sum(1 if 0x20 <= it <= 0x7E else 4 for it in octets)
 
 
-def _text_or_none(text: str) -> ScriptText | None:
+def _script_text_or_none_if_unfit(text: str) -> ScriptText | None:
     try:
-        return make_text(text.encode("utf-8", "surrogatepass"))
+        return make_newline_ended_text_within_limits(text.encode("utf-8", "surrogatepass"))
     except UnfitTextError:
         return None

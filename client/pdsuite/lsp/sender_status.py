@@ -54,7 +54,7 @@ class SenderStatus:
         was, self._is_anew = self._is_anew, False
         return was
 
-    def show_changes(self, follower: SenderFollower, proof: Sequence[str], is_running: bool) -> None:
+    def show_changed_sender_status(self, follower: SenderFollower, proof: Sequence[str], is_running: bool) -> None:
         """Shows what is other than it was shown last; `proof` has the lines of a refused proof."""
         mark = ""
         if follower.sender is not None:
@@ -104,7 +104,7 @@ class SenderStatus:
         if refusals == self._refusals:
             return
         before, self._refusals = self._refusals, refusals
-        self._faults.publish_lines([line for each in refusals for line in each])
+        self._faults.publish_changed_source_diagnostics([line for each in refusals for line in each])
         for it in refusals:
             if it and it not in before:
                 self._show_message(_WARNING, "\n".join(it[:_FIRST_LINES]))

@@ -20,16 +20,16 @@ class SourceDiagnostics:
         self._notify = notify
         self._published: Mapping[str, list[Json]] = {}
 
-    def publish_lines(self, lines: Sequence[str]) -> None:
+    def publish_changed_source_diagnostics(self, lines: Sequence[str]) -> None:
         """Publishes these lines, where they are others."""
-        found = diagnostics_by_source(lines)
+        found = parse_diagnostics_by_source_uri(lines)
         for uri in dict.fromkeys([*found, *self._published]):
             if found.get(uri) != self._published.get(uri):
                 self._notify("textDocument/publishDiagnostics", {"uri": uri, "diagnostics": found.get(uri, [])})
         self._published = found
 
 
-def diagnostics_by_source(lines: Sequence[str]) -> Mapping[str, list[Json]]:
+def parse_diagnostics_by_source_uri(lines: Sequence[str]) -> Mapping[str, list[Json]]:
     """The diagnostics of lines, by the URIs of sources; a line without a place is of the one above."""
     found: dict[str, list[Json]] = {}
     last: Json | None = None

@@ -42,12 +42,12 @@ class Promise(Future[Any]):
             self.set_exception(JsonRpcRequestCancelled())
         return True
 
-    def answer(self, result: Any) -> None:
+    def answer_unless_done(self, result: Any) -> None:
         """Answers, where nobody has."""
         if not self.done():
             self.set_result(result)
 
-    def refuse(self, code: int, message: str) -> None:
+    def answer_error_unless_done(self, code: int, message: str) -> None:
         """Answers by an error, where nobody has answered."""
         if not self.done():
             self.set_exception(RequestError(message, code))
@@ -69,7 +69,7 @@ def _read_message_bodies(file: BinaryIO) -> Iterator[bytes]:
             length = None
 
 
-def _parse_message(body: bytes) -> object:
+def _parse_message_or_make_error(body: bytes) -> object:
     """The message that octets hold, or the answer to some that hold no JSON."""
     try:
         return json.loads(body)
@@ -92,7 +92,7 @@ class Transport:
         # When the last message was taken.
         self.received_at = -inf
         self.is_at_end = False
-        threading.Thread(target=self._listen, daemon=True).start()
+        threading.Thread(target=self._queue_messages_until_end, daemon=True).start()
 
     def fileno(self) -> int:
         """What can be read once there are messages, or no more come."""
@@ -103,7 +103,7 @@ class Transport:
         """Whether there are messages that weren't taken."""
         return not self._messages.empty()
 
-    def take_messages(self) -> None:
+    def dispatch_messages_noting_end(self) -> None:
         """Takes all messages that have come, in their order."""
         with suppress(BlockingIOError):
             while os.read(self._wake_reader, 4_096):
@@ -126,7 +126,7 @@ class Transport:
         """Notifies the client of something."""
         self._endpoint.notify(method, params)
 
-    def request(self, method: str, params: object) -> None:
+    def request_ignoring_answer(self, method: str, params: object) -> None:
         """Requests something of the client, whatever it answers."""
         self._endpoint.request(method, params)
 
@@ -134,14 +134,14 @@ class Transport:
         """Answers what can't be read as a message, and so has no number."""
         self._writer.write({"jsonrpc": VERSION, "id": None, "error": why.to_dict()})
 
-    def _listen(self) -> None:
+    def _queue_messages_until_end(self) -> None:
         try:
             for body in _read_message_bodies(self._source):
-                self._queue_message(_parse_message(body))
+                self._queue_message_and_wake_reader(_parse_message_or_make_error(body))
         finally:
-            self._queue_message(_END)
+            self._queue_message_and_wake_reader(_END)
 
-    def _queue_message(self, message: object) -> None:
+    def _queue_message_and_wake_reader(self, message: object) -> None:
         self._messages.put(message)
         with suppress(OSError):
             os.write(self._wake_writer, b"x")

@@ -9,7 +9,7 @@ from pdsuite.lsp.documents import Document, path_of_uri
 from pdsuite.lsp.open_settings import OpenSettings
 from pdsuite.programs.protocol import Cause
 from pdsuite.programs.verdict import Row, Verdict
-from pdsuite.run.outcomes import ScriptOutcome, warning_at_end
+from pdsuite.run.outcomes import ScriptOutcome, end_warning_of_passing_row
 from pdsuite.scripts.config import CONFIG_FILE, ScriptRules
 from pdsuite.scripts.discover import ScriptFile
 from pdsuite.scripts.text import ScriptText
@@ -77,12 +77,12 @@ class Workspace:
         self._is_dirty = True
 
     @property
-    def is_behind(self) -> bool:
+    def are_results_outdated(self) -> bool:
         """Whether a text has changed since the results were worked out."""
         return self._is_dirty
 
     @property
-    def settings_uris(self) -> Mapping[Path, str]:
+    def uris_of_open_settings(self) -> Mapping[Path, str]:
         """The settings files that are open, each with its URI."""
         return self._settings_uris
 
@@ -94,13 +94,13 @@ class Workspace:
         """Takes a text that was opened or changed."""
         known = self._open.get(document.uri)
         self._documents[document.uri] = document
-        if path := settings_path_of_uri(document.uri):
+        if path := path_if_settings_uri(document.uri):
             self._settings.set_open_text(path, document.octets)
             self._settings_uris[path] = document.uri
             self._events.append(FileEvent(FileEventKind.CLOSED, str(path.parent), CONFIG_FILE))
         else:
-            file = self._script_file_of_uri(document.uri) if known is None else known.file
-            self._open[document.uri] = OpenScript(document, file, document.script_or_reason())
+            file = self._script_file_of_any_uri(document.uri) if known is None else known.file
+            self._open[document.uri] = OpenScript(document, file, document.script_text_or_reason())
             if known is None:
                 self._tell_settings_open_scripts()
         self._is_dirty = True
@@ -111,13 +111,13 @@ class Workspace:
             return
         self._open.pop(uri, None)
         self._tell_settings_open_scripts()
-        if path := settings_path_of_uri(uri):
+        if path := path_if_settings_uri(uri):
             self._settings.set_open_text(path, None)
             self._settings_uris.pop(path, None)
             self._events.append(FileEvent(FileEventKind.CLOSED, str(path.parent), CONFIG_FILE))
         self._is_dirty = True
 
-    def result_path_of(self, uri: str) -> str | None:
+    def find_results_key_of_open_uri(self, uri: str) -> str | None:
         """The path under which an open script stands among the results."""
         return self._paths.get(uri)
 
@@ -125,32 +125,34 @@ class Workspace:
         """The URI under which a script is open that stands under this path."""
         return self._uris.get(path)
 
-    def current_result_of(self, uri: str) -> Result | None:
+    def find_result_if_up_to_date(self, uri: str) -> Result | None:
         """What came of an open script, where that is of its present text."""
         found = self.results.get(self._paths.get(uri, ""))
         document = self._documents.get(uri)
         return found if document is not None and found is not None and found.version == document.version else None
 
-    def rerun_changes(self, events: Sequence[FileEvent], now: float, is_at_rest: bool = True) -> list[str]:
+    def rerun_changes_and_list_changed_results(
+        self, events: Sequence[FileEvent], now: float, is_at_rest: bool = True
+    ) -> list[str]:
         """Looks at what is reported or, at rest, due, and has run again what that changes: the paths whose results are
         others."""
         reported = [*events, *self._events]
         self._events = []
-        has_changed = bool(is_at_rest or reported) and self._folders.take_in_events(reported, now)
+        has_changed = bool(is_at_rest or reported) and self._folders.take_in_events_and_report_change(reported, now)
         if has_changed:
-            self._seen = self._folders.wanted_and_unfit()
+            self._seen = self._folders.wanted_scripts_and_unfit_reasons()
         has_ended = self._pool.restart_ended_runs()
         if not (has_changed or has_ended or self._is_dirty):
             return []
         self._is_dirty = False
         files = {path: it.found for path, it in self._folders.files.items()}
         wanted, unfit = dict(self._seen[0]), dict(self._seen[1])
-        versions = self._put_open_over_files(files, wanted, unfit)
+        versions = self._overlay_open_scripts_and_get_versions(files, wanted, unfit)
         self._pool.renew_long_runs(SPENT)
-        self._pool.hold_wanted_scripts(wanted)
-        return self._update_results(files, wanted, unfit, versions)
+        self._pool.update_runs_to_wanted_scripts(wanted)
+        return self._update_results_and_list_changed(files, wanted, unfit, versions)
 
-    def renew_long_runs(self) -> None:
+    def restart_runs_with_long_histories(self) -> None:
         """Does what can wait: starts new runs in place of those whose histories are long."""
         self._pool.renew_long_runs(WORN)
 
@@ -158,7 +160,7 @@ class Workspace:
         """The moment at which something has to be looked at, whatever is reported."""
         return self._folders.next_look_moment()
 
-    def filenos(self) -> list[int]:
+    def filenos_of_running_programs(self) -> list[int]:
         """What can be read once a program has ended by itself."""
         return [it.program.fileno() for it in self._pool.runs]
 
@@ -166,7 +168,7 @@ class Workspace:
         """Says which scripts tables may be about though no file is there."""
         self._settings.scripts = {(it.file.folder, it.file.name) for it in self._open.values()}
 
-    def _put_open_over_files(
+    def _overlay_open_scripts_and_get_versions(
         self, files: dict[str, ScriptFile], wanted: dict[str, WantedScript], unfit: dict[str, str]
     ) -> dict[str, int]:
         """Puts what is open in place of files; the versions of open scripts, by their paths."""
@@ -188,7 +190,7 @@ class Workspace:
                 wanted[path] = WantedScript(self._rules_of_file(files[path]).settings, it.text)
         return versions
 
-    def _script_file_of_uri(self, uri: str) -> ScriptFile:
+    def _script_file_of_any_uri(self, uri: str) -> ScriptFile:
         path = path_of_uri(uri)
         if path is None:
             return ScriptFile(uri, str(self._home), uri.rpartition("/")[2])
@@ -196,16 +198,16 @@ class Workspace:
         return ScriptFile(path, folder, name)
 
     def _rules_of_file(self, file: ScriptFile) -> ScriptRules:
-        return self._folders.suite.rules_of_script(file)
+        return self._folders.current_suite_config.rules_of_script(file)
 
-    def _update_results(
+    def _update_results_and_list_changed(
         self,
         files: Mapping[str, ScriptFile],
         wanted: Mapping[str, WantedScript],
         unfit: Mapping[str, str],
         versions: Mapping[str, int],
     ) -> list[str]:
-        rows, causes, steps = dict(self._pool.rows()), self._pool.causes_by_path(), self._pool.steps_by_path()
+        rows, causes, steps = dict(self._pool.rows()), self._pool.causes_by_path(), self._pool.step_counts_by_path()
         before, results, changed = self.results, {}, []
         for path, file in files.items():
             row = rows.get(path) if path in wanted else Row(Verdict.ERROR, word=unfit.get(path, ""))
@@ -224,15 +226,15 @@ class Workspace:
     def _make_result(self, file: ScriptFile, row: Row, wanted: WantedScript | None, cause: Cause | None) -> Result:
         rules = self._rules_of_file(file)
         text = None if wanted is None else wanted.text
-        line = None if text is None or row.line is None else text.line(row.line)
+        line = None if text is None or row.line is None else text.find_line_by_number(row.line)
         settings = () if wanted is None else wanted.settings
         outcome = ScriptOutcome(file.path, settings, row, line, is_strict=rules.is_strict, expected=rules.expected)
         if row.line is None:
-            outcome.at_end = warning_at_end(row, cause)
+            outcome.at_end = end_warning_of_passing_row(row, cause)
         return Result(file, outcome, text, cause if row.line is not None else None)
 
 
-def settings_path_of_uri(uri: str) -> Path | None:
+def path_if_settings_uri(uri: str) -> Path | None:
     """The file pdsuite.toml that a URI names, without links; None where it names another."""
     path = path_of_uri(uri)
     if path is None or os.path.basename(path) != CONFIG_FILE:

@@ -7,7 +7,7 @@ same transfers on both sides of a comparison, and `statistics` says what the dif
     Measurement --> TransferCase --play_transfers--> Transfer <--inputs, SenderReply--> pdregress
                                         |
                                         v
-          two TransferResults by equal seeds --figure_tables_of--> FigureRow with its ChangeVerdict
+          two TransferResults by equal seeds --figure_tables_with_holm_verdicts--> FigureRow with its ChangeVerdict
 
     a transfer:  handshake --> inputs --> reply --> inputs .. --> delivered
                                                        '--> UnfinishedTransferError, StalledTransferError
@@ -15,7 +15,7 @@ same transfers on both sides of a comparison, and `statistics` says what the dif
 - Time is virtual: whole microseconds, and nanoseconds within the queue. Chance is drawn by seeds of case and run, equal
   for both sides, so pairs compare.
 - Inputs go to the program only once nothing can arrive before them: what left is known first
-  (`Transfer.earliest_arrival_from`).
+  (`Transfer.earliest_arrival_at_peer`).
 - Many transfers share a program, as scripts that grow at their ends; each is independent of those beside it.
 - A transfer that comes to no end counts on neither side, and is reported.
 - A verdict of a figure holds together with all others of the table (Holm), so more figures don't make more findings.

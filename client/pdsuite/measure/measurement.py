@@ -8,7 +8,7 @@ from pathlib import Path
 
 from pdsuite.compare.sides import Side
 from pdsuite.measure.paths import NetworkPath
-from pdsuite.measure.transfer import TransferResult, play_transfer
+from pdsuite.measure.transfer import TransferResult, play_transfer_as_generator
 from pdsuite.measure.transfer_batch import TransferOutcome, UnfinishedTransferError, play_transfers
 from pdsuite.programs.locate import REGRESS
 from pdsuite.scripts.defaults import DEFAULTS
@@ -82,7 +82,7 @@ def cases_of_paths(paths: Sequence[NetworkPath], runs: int) -> list[TransferCase
     return [TransferCase(path, size, runs if path.has_chance else 1) for path in paths for size in path.sizes]
 
 
-def settings_for_path(side: Side, common: Settings, path: NetworkPath) -> Settings:
+def side_settings_with_path_mss(side: Side, common: Settings, path: NetworkPath) -> Settings:
     """The settings of a side over a path: the sender's segments are as large as the path's, unless it is set."""
     own = {_MSS: path.mss} if path.mss != DEFAULTS[_MSS] else {}
     return side.effective_settings(sorted_settings({**own, **dict(common)}))
@@ -106,7 +106,7 @@ class Measurement:
         done = 0
         with ThreadPoolExecutor(len(os.sched_getaffinity(0))) as pool:
             futures: dict[Future[list[TransferOutcome]], _Piece] = {
-                pool.submit(self._play_piece, it, stop): it for it in pieces
+                pool.submit(self._play_piece_of_one_side, it, stop): it for it in pieces
             }
             try:
                 for future in as_completed(futures):
@@ -118,7 +118,9 @@ class Measurement:
             except StoppedError as stopped:
                 status = stopped.status
                 pool.shutdown(cancel_futures=True)
-        return MeasureResult(tuple(self._pair_outcomes(number, found) for number in range(len(self.cases))), status)
+        return MeasureResult(
+            tuple(self._pair_outcomes_and_list_unplayed(number, found) for number in range(len(self.cases))), status
+        )
 
     def _pieces_round_robin(self) -> Iterator[_Piece]:
         """The pieces, the first runs of all cases before others, so that a signal leaves something of each."""
@@ -128,14 +130,17 @@ class Measurement:
                 if runs := range(begin, min(begin + _PIECE, case.runs)):
                     yield from (_Piece(number, side, runs) for side in (0, 1))
 
-    def _play_piece(self, piece: _Piece, stop: Stop) -> list[TransferOutcome]:
+    def _play_piece_of_one_side(self, piece: _Piece, stop: Stop) -> list[TransferOutcome]:
         case, side = self.cases[piece.case], self.sides[piece.side]
-        settings = settings_for_path(side, self.common, case.path)
+        settings = side_settings_with_path_mss(side, self.common, case.path)
         room = int(str(dict(settings).get(_ROOM, DEFAULTS[_ROOM])))
-        games = [play_transfer(case.path, case.size, case.seed_of_run(self.seed, run), room) for run in piece.runs]
-        return play_transfers(games, program_of(side, REGRESS), settings, stop)
+        games = [
+            play_transfer_as_generator(case.path, case.size, case.seed_of_run(self.seed, run), room)
+            for run in piece.runs
+        ]
+        return play_transfers(games, program_path_of_side(side, REGRESS), settings, stop)
 
-    def _pair_outcomes(
+    def _pair_outcomes_and_list_unplayed(
         self, number: int, found: Mapping[tuple[int, int], Mapping[int, TransferOutcome]]
     ) -> MeasuredCase:
         before, after = (found.get((number, side), {}) for side in (0, 1))
@@ -153,6 +158,6 @@ class Measurement:
         return MeasuredCase(self.cases[number], tuple(pairs), tuple(unplayed))
 
 
-def program_of(side: Side, name: str) -> Path:
+def program_path_of_side(side: Side, name: str) -> Path:
     """A program of a side."""
     return (side.sender.programs or {})[name]

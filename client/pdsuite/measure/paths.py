@@ -10,7 +10,7 @@ from typing import Any
 
 from pdsuite.faults import Fault
 from pdsuite.output.octets import printable_text
-from pdsuite.scripts.config import read_config_octets, shown_place
+from pdsuite.scripts.config import read_config_octets_if_file_exists, printable_path_from_working_folder
 from pdsuite.scripts.defaults import nearest_word
 from pdsuite.scripts.toml_places import TomlPlaces, find_toml_places
 
@@ -72,7 +72,7 @@ class NetworkPath:
         """The field of the peer's window in its segments after the SYN."""
         return min(self.window >> self.window_shift, _MOST_FIELD)
 
-    def octets_written(self, size: int) -> int:
+    def octets_written_doubled_if_idle(self, size: int) -> int:
         """How much a transfer of this size writes: twice as much where an idle time parts two."""
         return 2 * size if self.idle_us else size
 
@@ -109,22 +109,23 @@ _KINDS: Mapping[object, tuple[tuple[type, ...], str]] = {
 _FIELDS = {it.name: it for it in fields(NetworkPath) if it.name != "name"}
 
 
-def load_paths(file: Path | None, patterns: Sequence[str] = ()) -> list[NetworkPath]:
+def load_network_paths_matching(file: Path | None, patterns: Sequence[str] = ()) -> list[NetworkPath]:
     """The paths of a file, or those that come with the client: all, or those whose names fit a pattern."""
     place = FILE if file is None else file
-    octets = read_config_octets(place)
+    octets = read_config_octets_if_file_exists(place)
     if octets is None:
-        raise Fault(f"{shown_place(place)}: {os.strerror(2)}")
-    paths = list(parse_paths(shown_place(place), octets))
+        raise Fault(f"{printable_path_from_working_folder(place)}: {os.strerror(2)}")
+    paths = list(parse_network_paths_toml(printable_path_from_working_folder(place), octets))
     if not paths:
-        raise Fault(f"{shown_place(place)}: there is no path in it; each is a table")
+        raise Fault(f"{printable_path_from_working_folder(place)}: there is no path in it; each is a table")
     chosen = [it for it in paths if not patterns or any(fnmatchcase(it.name, pattern) for pattern in patterns)]
     if not chosen:
-        raise Fault(f"{shown_place(place)}: no path has such a name; there are {', '.join(it.name for it in paths)}")
+        names = ", ".join(it.name for it in paths)
+        raise Fault(f"{printable_path_from_working_folder(place)}: no path has such a name; there are {names}")
     return chosen
 
 
-def parse_paths(file: str, octets: bytes) -> Iterator[NetworkPath]:
+def parse_network_paths_toml(file: str, octets: bytes) -> Iterator[NetworkPath]:
     """The paths of a text, one for each table."""
     import tomllib
 
@@ -137,9 +138,9 @@ def parse_paths(file: str, octets: bytes) -> Iterator[NetworkPath]:
     for name, table in tables.items():
         if not isinstance(table, dict):
             raise Fault(
-                f"{places.file_and_line('', name)}: {printable_text(name)} stands in no table; each path is one"
+                f"{places.file_and_line_of_key('', name)}: {printable_text(name)} stands in no table; each path is one"
             )
-        yield _Reading(places, name, table).read_path()
+        yield _Reading(places, name, table).parse_network_path_or_refuse()
 
 
 @dataclass(frozen=True)
@@ -150,14 +151,14 @@ class _Reading:
     name: str
     table: Mapping[str, object]
 
-    def read_path(self) -> NetworkPath:
+    def parse_network_path_or_refuse(self) -> NetworkPath:
         if not self._has_valid_name():
             raise self._fault_at_key("", f"no name of a path: it is 1 to {_NAME_LENGTH} letters, digits, - and _")
         for key in self.table:
             if key not in _FIELDS:
                 near = nearest_word(key, _FIELDS)
                 raise self._fault_at_key(key, "there is no such key" + (f"; the nearest is {near}" if near else ""))
-        values: dict[str, Any] = {key: self._read_value(key) for key in _FIELDS if key in self.table}
+        values: dict[str, Any] = {key: self._require_valid_value(key) for key in _FIELDS if key in self.table}
         for key, it in _FIELDS.items():
             if key not in values and it.default is MISSING:
                 raise self._fault_at_key("", f"it has no {key}")
@@ -170,10 +171,10 @@ class _Reading:
             it.isascii() and (it.isalnum() or it in "-_") for it in self.name
         )
 
-    def _read_value(self, key: str) -> object:
+    def _require_valid_value(self, key: str) -> object:
         value = self.table[key]
         if key == _SIZES:
-            return self._read_sizes(value)
+            return self._require_valid_sizes(value)
         kind: object = _FIELDS[key].type
         types, words = _KINDS[kind]
         if not isinstance(value, types) or (isinstance(value, bool) and kind is not bool):
@@ -184,7 +185,7 @@ class _Reading:
                 raise self._fault_at_key(key, f"it takes {least:,} to {most:,}")
         return value
 
-    def _read_sizes(self, value: object) -> tuple[int, ...]:
+    def _require_valid_sizes(self, value: object) -> tuple[int, ...]:
         sizes = value if isinstance(value, list) else []
         if not sizes or any(isinstance(it, bool) or not isinstance(it, int) or it < 1 for it in sizes):
             raise self._fault_at_key(_SIZES, "it takes a list of numbers of octets, [14600, 146000]")
@@ -193,8 +194,8 @@ class _Reading:
     def _refuse_contradictions(self, path: NetworkPath) -> None:
         """Refuses what doesn't go together."""
         for size in path.sizes:
-            if path.octets_written(size) > MOST_SEGMENTS * path.mss:
-                most = MOST_SEGMENTS * path.mss // path.octets_written(1)
+            if path.octets_written_doubled_if_idle(size) > MOST_SEGMENTS * path.mss:
+                most = MOST_SEGMENTS * path.mss // path.octets_written_doubled_if_idle(1)
                 raise self._fault_at_key(
                     _SIZES, f"a script holds {MOST_SEGMENTS} segments, here {most:,} octets; a larger mss allows more"
                 )
@@ -209,4 +210,4 @@ class _Reading:
 
     def _fault_at_key(self, key: str, reason: str) -> Fault:
         what = f"{self.name}.{key}" if key else self.name
-        return Fault(f"{self.places.file_and_line(self.name, key)}: {printable_text(what)}: {reason}")
+        return Fault(f"{self.places.file_and_line_of_key(self.name, key)}: {printable_text(what)}: {reason}")

@@ -29,21 +29,21 @@ class Receiver:
         # What came above a gap, apart from one another, the newest first.
         self._spans: list[OctetRange] = []
 
-    def take_segment(self, span: OctetRange) -> bool:
+    def receive_segment_and_check_immediate_ack(self, span: OctetRange) -> bool:
         """Takes a segment; whether it has to be acknowledged at once."""
         begin = self.next
         had_gap = bool(self._spans)
-        self._add_octets(span)
+        self._merge_received_range_and_advance_next(span)
         self.waiting += 1
         is_in_order = span[0] <= begin < span[1] and not had_gap
         return not is_in_order or self.waiting >= self._every
 
-    def make_ack(self) -> Ack:
+    def make_ack_and_reset_waiting(self) -> Ack:
         """The acknowledgment of all that came."""
         self.waiting = 0
         return Ack(self.next, tuple(self._spans[:_MOST_BLOCKS]) if self._has_sack else ())
 
-    def _add_octets(self, span: OctetRange) -> None:
+    def _merge_received_range_and_advance_next(self, span: OctetRange) -> None:
         start, end = max(span[0], self.next), span[1]
         if start >= end:
             return

@@ -7,7 +7,7 @@ from dataclasses import dataclass
 
 from pdsuite.measure.measurement import TransferCase
 from pdsuite.measure.statistics import ChangeVerdict, FigureRow, FigureTable, Unit
-from pdsuite.output.fitting import wrap_line
+from pdsuite.output.fitting import wrap_with_hanging_indent
 from pdsuite.output.octets import printable_text
 from pdsuite.output.styled_text import StyledText, unstyled_text
 from pdsuite.run.outcomes import UNPROVED
@@ -38,14 +38,14 @@ class MeasureReport:
     is_cut: bool = False  # a signal ended it early
 
     @property
-    def verdict_counts(self) -> Counter[ChangeVerdict]:
+    def row_counts_by_verdict(self) -> Counter[ChangeVerdict]:
         """How many rows have which verdict."""
         return Counter(row.verdict for table in self.tables for row in table.rows)
 
 
 def title_of_case(case: TransferCase, runs: int) -> str:
     """A case in words."""
-    twice = f", twice, {number_with_unit(Unit.TIME, case.path.idle_us)} apart" if case.path.idle_us else ""
+    twice = f", twice, {number_and_unit_as_text(Unit.TIME, case.path.idle_us)} apart" if case.path.idle_us else ""
     count = "1 run, without chance" if not case.path.has_chance else f"{runs:,} run{'s' * (runs != 1)}"
     return f"{case.path.name}, {case.size:,} octets{twice}: {count}"
 
@@ -55,65 +55,74 @@ def plain_report(report: MeasureReport, columns: int | None = None) -> StyledTex
     text = StyledText()
     for table in report.tables:
         text.append(f"{title_of_case(table.measured.case, len(table.measured.pairs))}\n", "bold")
-        for line, verdict, below in rows_in_lines(table, columns):
+        for line, verdict, below in lay_out_rows_in_columns_or_below(table, columns):
             text.append(f"{_INDENT}{line}  ").append(verdict, _STYLES[verdict]).append("\n")
             text.append("".join(f"{2 * _INDENT}{it}\n" for it in below))
         if table.measured.unfinished:
-            text.append(f"{_wrap_line(f'{_INDENT}{unplayed_words(table)}', columns)}\n", "bold red")
-    return text.append("".join(f"{_wrap_line(line, columns)}\n" for line in total_lines(report)))
+            text.append(
+                f"{_wrap_line_if_columns_given(f'{_INDENT}{first_unplayed_reason_and_count(table)}', columns)}\n",
+                "bold red",
+            )
+    return text.append("".join(f"{_wrap_line_if_columns_given(line, columns)}\n" for line in total_lines(report)))
 
 
-def _wrap_line(line: str, columns: int | None) -> str:
-    return line if columns is None else wrap_line(line, columns, 2 * _INDENT)
+def _wrap_line_if_columns_given(line: str, columns: int | None) -> str:
+    return line if columns is None else wrap_with_hanging_indent(line, columns, 2 * _INDENT)
 
 
 def total_lines(report: MeasureReport) -> tuple[str, str]:
     """The last lines: how many figures show what, and how many transfers were played."""
     mark = f" {UNPROVED}" if report.is_unproved else ""
     cut = " until a signal came" if report.is_cut else ""
-    counts = ", ".join(f"{report.verdict_counts[it]} {it}" for it in ChangeVerdict)
+    counts = ", ".join(f"{report.row_counts_by_verdict[it]} {it}" for it in ChangeVerdict)
     return counts, f"total {report.transfers:,} transfers in {report.seconds:.2f} s{cut}, seed {report.seed}{mark}"
 
 
-def unplayed_words(table: FigureTable) -> str:
+def first_unplayed_reason_and_count(table: FigureTable) -> str:
     """How many transfers came to no end, and why the first didn't."""
     first, *more = table.measured.unfinished
     return f"not played: {printable_text(first)}" + (f", and {len(more)} more" if more else "")
 
 
-def rows_in_lines(table: FigureTable, columns: int | None) -> Iterator[tuple[str, ChangeVerdict, Sequence[str]]]:
+def lay_out_rows_in_columns_or_below(
+    table: FigureTable, columns: int | None
+) -> Iterator[tuple[str, ChangeVerdict, Sequence[str]]]:
     """The rows of a case, each with its verdict: in columns, or where these don't fit with their numbers below."""
-    cells = [cells_of_row(it) for it in table.rows]
+    cells = [row_cells_without_verdict(it) for it in table.rows]
     widths = [max(len(row[column]) for row in cells) for column in range(len(cells[0]))] if cells else []
-    rows = [(row.verdict, _align_in_columns(it, widths)) for row, it in zip(table.rows, cells)]
+    rows = [(row.verdict, _aligned_row_line(it, widths)) for row, it in zip(table.rows, cells)]
     if columns is None or all(len(f"{_INDENT}{line}  {verdict}") <= columns for verdict, line in rows):
         yield from ((line, verdict, ()) for verdict, line in rows)
         return
     for row, (name, *numbers) in zip(table.rows, cells):
-        yield name.ljust(widths[0]), row.verdict, _numbers_below(numbers, columns)
+        yield name.ljust(widths[0]), row.verdict, _numbers_in_one_or_two_lines(numbers, columns)
 
 
-def _align_in_columns(cells: Sequence[str], widths: Sequence[int]) -> str:
+def _aligned_row_line(cells: Sequence[str], widths: Sequence[int]) -> str:
     name, *numbers = cells
     return "  ".join([name.ljust(widths[0]), *(it.rjust(width) for it, width in zip(numbers, widths[1:]))])
 
 
-def _numbers_below(numbers: Sequence[str], columns: int) -> Sequence[str]:
+def _numbers_in_one_or_two_lines(numbers: Sequence[str], columns: int) -> Sequence[str]:
     """Numbers in a line; where it doesn't fit the last, which says where a difference lies, has one of its own."""
     line = "  ".join(it for it in numbers if it)
     return [line] if len(f"{2 * _INDENT}{line}") <= columns else ["  ".join(numbers[:-1]), numbers[-1]]
 
 
-def cells_of_row(row: FigureRow) -> tuple[str, ...]:
+def row_cells_without_verdict(row: FigureRow) -> tuple[str, ...]:
     """A row in words: its name, both sides, the difference, and where that lies."""
     unit = row.figure.unit
     is_short = max(row.before, row.after) < _SHORT
-    before, after = number_with_unit(unit, row.before, "", is_short), number_with_unit(unit, row.after, "", is_short)
-    difference, low, high = (number_with_unit(unit, it, "+", is_short) for it in (row.difference, row.low, row.high))
+    before, after = number_and_unit_as_text(unit, row.before, "", is_short), number_and_unit_as_text(
+        unit, row.after, "", is_short
+    )
+    difference, low, high = (
+        number_and_unit_as_text(unit, it, "+", is_short) for it in (row.difference, row.low, row.high)
+    )
     return row.figure.words, before, after, difference, f"({low} to {high})" if row.chance is not None else ""
 
 
-def number_with_unit(unit: Unit, value: float, sign: str = "", is_short: bool = False) -> str:
+def number_and_unit_as_text(unit: Unit, value: float, sign: str = "", is_short: bool = False) -> str:
     """A number with its unit; a time in milliseconds, or beside short times in microseconds."""
     if unit is Unit.TIME and is_short:
         return f"{value:{sign},.3f} us"
@@ -132,7 +141,7 @@ def as_json(report: MeasureReport) -> StyledText:
         "after": report.names[1],
         "seed": report.seed,
         "cases": [_case_object(it) for it in report.tables],
-        "verdicts": {it.value: report.verdict_counts[it] for it in ChangeVerdict},
+        "verdicts": {it.value: report.row_counts_by_verdict[it] for it in ChangeVerdict},
         "transfers": report.transfers,
         "seconds": round(report.seconds, 2),
     }

@@ -91,7 +91,13 @@ FIGURES = (
             ("time_99", "99th percentile", 0.99),
         )
     ),
-    Figure("goodput", "goodput, of the rate", Unit.SHARE, lambda it, rate: goodput(it, rate), is_more_better=True),
+    Figure(
+        "goodput",
+        "goodput, of the rate",
+        Unit.SHARE,
+        lambda it, rate: goodput_as_share_of_path_rate(it, rate),
+        is_more_better=True,
+    ),
     Figure("segments_again", "segments sent again", Unit.COUNT, lambda it, _: it.segments_again),
     Figure("octets_again", "octets sent again", Unit.COUNT, lambda it, _: it.octets_again),
     Figure("expiries", "expiries of the timer", Unit.COUNT, lambda it, _: it.expiries),
@@ -99,14 +105,14 @@ FIGURES = (
 )
 
 
-def goodput(it: TransferResult, rate: int) -> float:
+def goodput_as_share_of_path_rate(it: TransferResult, rate: int) -> float:
     """What the peer got, as a share of what the path could have brought in that time."""
     return it.octets * 8_000_000 / it.time / rate
 
 
-def figure_tables_of(cases: Sequence[MeasuredCase]) -> list[FigureTable]:
+def figure_tables_with_holm_verdicts(cases: Sequence[MeasuredCase]) -> list[FigureTable]:
     """The tables of all cases, with verdicts that hold together."""
-    tables = [FigureTable(it, tuple(_figure_rows(it)) if it.pairs else ()) for it in cases]
+    tables = [FigureTable(it, tuple(_figure_rows_without_verdicts(it)) if it.pairs else ()) for it in cases]
     shown = _shown_by_holm([row.chance for table in tables for row in table.rows])
     verdicts = iter(shown)
     return [
@@ -115,13 +121,15 @@ def figure_tables_of(cases: Sequence[MeasuredCase]) -> list[FigureTable]:
     ]
 
 
-def _figure_rows(it: MeasuredCase) -> Iterator[FigureRow]:
+def _figure_rows_without_verdicts(it: MeasuredCase) -> Iterator[FigureRow]:
     """The figures of a case, whose verdicts are open. All are of the same samples of runs."""
     rate = it.case.path.rate
     count = len(it.pairs)
     for figure in FIGURES:
         sides = [numpy.array([figure.of(pair.sides[side], rate) for pair in it.pairs], float) for side in (0, 1)]
-        before, after = (float(_estimate_per_sample(each, numpy.ones((1, count)), figure.share)[0]) for each in sides)
+        before, after = (
+            float(_mean_or_quantile_per_sample(each, numpy.ones((1, count)), figure.share)[0]) for each in sides
+        )
         if not it.case.path.has_chance:
             yield FigureRow(figure, before, after, after - before, after - before, None)
         elif (sides[0] == sides[1]).all():
@@ -135,7 +143,7 @@ def _figure_rows(it: MeasuredCase) -> Iterator[FigureRow]:
                 after,
                 float(low),
                 float(high),
-                _chance_of_difference(differences, int((sides[0] != sides[1]).sum())),
+                _p_value_floored_by_sign_test(differences, int((sides[0] != sides[1]).sum())),
             )
 
 
@@ -144,7 +152,10 @@ def _bootstrap_differences(sides: Sequence[Array], share: float | None) -> Array
     counts = _bootstrap_counts(len(sides[0]))
     blocks = [counts[begin : begin + _BLOCK] for begin in range(0, _SAMPLES, _BLOCK)]
     return numpy.concatenate(
-        [_estimate_per_sample(sides[1], it, share) - _estimate_per_sample(sides[0], it, share) for it in blocks]
+        [
+            _mean_or_quantile_per_sample(sides[1], it, share) - _mean_or_quantile_per_sample(sides[0], it, share)
+            for it in blocks
+        ]
     )
 
 
@@ -155,7 +166,7 @@ def _bootstrap_counts(count: int) -> Array:
     return draw.multinomial(count, [1 / count] * count, _SAMPLES).astype(numpy.int16)
 
 
-def _estimate_per_sample(values: Array, counts: Array, share: float | None) -> Array:
+def _mean_or_quantile_per_sample(values: Array, counts: Array, share: float | None) -> Array:
     """A figure of each sample: the mean, or the least value that such a share of it doesn't exceed."""
     count = len(values)
     if share is None:
@@ -165,7 +176,7 @@ def _estimate_per_sample(values: Array, counts: Array, share: float | None) -> A
     return values[order][reached.argmax(axis=1)]
 
 
-def _chance_of_difference(differences: Array, unequal: int) -> float:
+def _p_value_floored_by_sign_test(differences: Array, unequal: int) -> float:
     """How often chance alone would make such a difference: both tails, and no less than a test of signs allows."""
     tail = min(int((differences <= 0).sum()), int((differences >= 0).sum()))
     return min(1.0, max(2 * (tail + 1) / (len(differences) + 1), 2.0 ** (1 - unequal)))

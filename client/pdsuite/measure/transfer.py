@@ -66,12 +66,12 @@ class TransferResult:
     lines: tuple[str, ...] = field(repr=False)  # of its inputs
     departures: tuple[SegmentDeparture, ...] = field(repr=False)
 
-    def script_octets(self) -> bytes:
+    def inputs_only_script_octets(self) -> bytes:
         """The script of its inputs alone."""
         return "".join(f"{it}\n" for it in self.lines).encode()
 
     @property
-    def departures_without_cause(self) -> tuple[SegmentDeparture, ...]:
+    def departures_stripped_of_cause(self) -> tuple[SegmentDeparture, ...]:
         """The segments that left, whatever sent them."""
         return tuple(SegmentDeparture(it.at, it.start, it.end) for it in self.departures)
 
@@ -84,9 +84,9 @@ class StalledTransferError(Exception):
 TransferSteps = Generator[Sequence[str], SenderReply, TransferResult]
 
 
-def play_transfer(path: NetworkPath, size: int, seed: str, room: int) -> TransferSteps:
+def play_transfer_as_generator(path: NetworkPath, size: int, seed: str, room: int) -> TransferSteps:
     """Plays a transfer of so many octets; the sender's buffer has this room."""
-    return (yield from Transfer(path, size, seed, room).play())
+    return (yield from Transfer(path, size, seed, room).play_as_generator())
 
 
 class Transfer:
@@ -112,55 +112,55 @@ class Transfer:
         self._waits: list[int] = []
         self._fates = {it: 0 for it in PacketFate}
 
-    def play(self) -> TransferSteps:
-        reply = yield self._handshake_lines()
+    def play_as_generator(self) -> TransferSteps:
+        reply = yield self._put_handshake_and_first_write_lines()
         self._carry_departures(reply)
-        while not self._writer.is_over:
-            reply = yield self._next_inputs(reply.expiry)
+        while not self._writer.is_all_acknowledged:
+            reply = yield self._advance_until_next_inputs(reply.expiry)
             self._carry_departures(reply)
-        return self._make_delivery()
+        return self._make_transfer_result()
 
     # ---- the sender
 
-    def _handshake_lines(self) -> list[str]:
+    def _put_handshake_and_first_write_lines(self) -> list[str]:
         """The lines up to the first write. No packet of the handshake is lost, and none waits."""
         path = self._path
         sack = ",sackOK" if path.sack else ""
         scale = f",nop,wscale {path.window_shift}" if path.window_shift else ""
         window = min(path.window, 65_535)
         self._lines += _HEADER_LINES
-        self._put_line(SYN_AT, f"< S 0:0(0) win {window} <mss {path.mss}{sack}{scale}>")
+        self._append_line_and_advance_time(SYN_AT, f"< S 0:0(0) win {window} <mss {path.mss}{sack}{scale}>")
         at = self._link.earliest_arrival(SYN_AT) + path.delay_us
-        self._put_line(at, f"< . 1:1(0) ack 1 win {path.window_field}")
-        self._put_line(at, "accept(3, ..., ...) = 4")
-        self._put_due_writes(at)
+        self._append_line_and_advance_time(at, f"< . 1:1(0) ack 1 win {path.window_field}")
+        self._append_line_and_advance_time(at, "accept(3, ..., ...) = 4")
+        self._put_due_writes_and_schedule_next(at)
         return list(self._lines)
 
-    def _next_inputs(self, expiry: int | None) -> list[str]:
+    def _advance_until_next_inputs(self, expiry: int | None) -> list[str]:
         """What is put in before the sender could be answered again, once all of that is known."""
         begin = len(self._lines)
         while len(self._lines) == begin:
-            first = self._first_due_moment(expiry)
+            first = self._first_due_moment_at_sender(expiry)
             if first is None:
                 raise StalledTransferError(
                     f"nothing is due, and {self._receiver.taken:,} of {self._writer.total:,} octets arrived"
                 )
-            horizon = self.earliest_arrival_from(first)
-            is_delivered = self._deliver_to_peer(horizon)
+            horizon = self.earliest_arrival_at_peer(first)
+            is_delivered = self._deliver_to_peer_before_and_check_any(horizon)
             while self._at_sender and self._at_sender[0][0] < horizon + self._path.delay_us:
                 at, _, ack = heapq.heappop(self._at_sender)
                 if ack is not None:
-                    self._put_ack(at, ack)
-                self._put_due_writes(at)
+                    self._put_ack_line_and_note_acknowledged(at, ack)
+                self._put_due_writes_and_schedule_next(at)
             if not is_delivered and len(self._lines) == begin and first == expiry:
-                self._put_line(first, _TICK)
+                self._append_line_and_advance_time(first, _TICK)
         return self._lines[begin:]
 
-    def earliest_arrival_from(self, first: int) -> int:
+    def earliest_arrival_at_peer(self, first: int) -> int:
         """A moment before which nothing reaches the peer that leaves from the first one on."""
         return self._link.earliest_arrival(first)
 
-    def _first_due_moment(self, expiry: int | None) -> int | None:
+    def _first_due_moment_at_sender(self, expiry: int | None) -> int | None:
         """The first moment at which the sender may do something."""
         moments = [] if expiry is None else [expiry]
         if self._at_sender:
@@ -169,22 +169,22 @@ class Transfer:
             moments.append(self._at_peer[0][0] + self._path.delay_us)
         return min(moments, default=None)
 
-    def _put_ack(self, at: int, ack: Ack) -> None:
+    def _put_ack_line_and_note_acknowledged(self, at: int, ack: Ack) -> None:
         blocks = " ".join(f"{left}:{right}" for left, right in ack.blocks)
         options = f" <nop,nop,sack {blocks}>" if blocks else ""
-        self._put_line(at, f"< . 1:1(0) ack {ack.number} win {self._path.window_field}{options}")
-        self._writer.note_acknowledged(at, ack.number)
+        self._append_line_and_advance_time(at, f"< . 1:1(0) ack {ack.number} win {self._path.window_field}{options}")
+        self._writer.note_acknowledged_and_start_next_part(at, ack.number)
 
-    def _put_due_writes(self, at: int) -> None:
+    def _put_due_writes_and_schedule_next(self, at: int) -> None:
         """Writes what is due and has room, and notes when more is due."""
-        for octets in self._writer.due_writes(at):
-            self._put_line(at, f"write(4, ..., {octets}) = {octets}")
-        due = self._writer.next_wake_moment(at)
+        for octets in self._writer.take_due_write_sizes(at):
+            self._append_line_and_advance_time(at, f"write(4, ..., {octets}) = {octets}")
+        due = self._writer.take_next_wake_moment_if_new(at)
         if due is not None:
             heapq.heappush(self._at_sender, (due, _LAST, None))
 
-    def _put_line(self, at: int, what: str) -> None:
-        self._lines.append(f"{_relative_time(at - self._now)} {what}")
+    def _append_line_and_advance_time(self, at: int, what: str) -> None:
+        self._lines.append(f"{_relative_time_text(at - self._now)} {what}")
         self._now = at
 
     def _carry_departures(self, reply: SenderReply) -> None:
@@ -200,43 +200,43 @@ class Transfer:
 
     # ---- the peer
 
-    def _deliver_to_peer(self, until: int) -> bool:
+    def _deliver_to_peer_before_and_check_any(self, until: int) -> bool:
         """Lets come what reaches the peer before a moment; whether there was anything."""
         is_any = False
         while self._at_peer and self._at_peer[0][0] < until:
             at, _, span = heapq.heappop(self._at_peer)
             is_any = True
             if span is None:
-                self._handle_peer_timers(at)
-            elif self._receiver.take_segment(span):
-                self._send_ack(at)
+                self._send_delayed_or_gathered_ack_if_due(at)
+            elif self._receiver.receive_segment_and_check_immediate_ack(span):
+                self._send_or_gather_ack(at)
             elif self._receiver.waiting == 1:
                 self._ack_due = at + self._path.ack_delay_us
                 self._wake_peer_at(self._ack_due)
-            self._writer.note_delivered(at, self._receiver.next)
+            self._writer.note_delivered_and_sum_part_times(at, self._receiver.next)
         return is_any
 
-    def _handle_peer_timers(self, at: int) -> None:
+    def _send_delayed_or_gathered_ack_if_due(self, at: int) -> None:
         """What the peer does when a timer of its own may be due: it acknowledges, or lets gathered ACKs go."""
         if self._ack_due == at:
-            self._send_ack(at)
+            self._send_or_gather_ack(at)
         if self._gathered is not None and self._gather_due == at:
             ack, self._gathered = self._gathered, None
-            self._return_ack(at, ack)
+            self._schedule_ack_arrival_unless_lost(at, ack)
 
-    def _send_ack(self, at: int) -> None:
+    def _send_or_gather_ack(self, at: int) -> None:
         """Sends an ACK, which may wait for newer ones on its way."""
         self._ack_due = None
-        ack = self._receiver.make_ack()
+        ack = self._receiver.make_ack_and_reset_waiting()
         if not self._path.ack_gather_us:
-            self._return_ack(at, ack)
+            self._schedule_ack_arrival_unless_lost(at, ack)
             return
         if self._gathered is None:
             self._gather_due = at + self._path.ack_gather_us
             self._wake_peer_at(self._gather_due)
         self._gathered = ack
 
-    def _return_ack(self, at: int, ack: Ack) -> None:
+    def _schedule_ack_arrival_unless_lost(self, at: int, ack: Ack) -> None:
         if self._lost_acks.random() >= self._path.ack_loss:
             heapq.heappush(self._at_sender, (at + self._path.delay_us, next(self._acks), ack))
 
@@ -245,7 +245,7 @@ class Transfer:
 
     # ---- what came of it
 
-    def _make_delivery(self) -> TransferResult:
+    def _make_transfer_result(self) -> TransferResult:
         top = 1
         segments = octets = 0
         for it in self._departures:
@@ -267,7 +267,7 @@ class Transfer:
         )
 
 
-def _relative_time(microseconds: int) -> str:
+def _relative_time_text(microseconds: int) -> str:
     """A time after the event before, as short as a script has it."""
     whole, part = divmod(microseconds, SECOND)
     digits = f"{part:06}".rstrip("0")

@@ -13,8 +13,15 @@ from pdsuite.measure.transfer import TransferResult, SegmentDeparture, SenderRep
 from pdsuite.output.octets import printable_text
 from pdsuite.packetdrill.items import SECOND
 from pdsuite.programs.program import Program, ProgramEndedError
-from pdsuite.programs.protocol import LONGEST_CAUSE, SETTLE, Cause, UnexpectedAnswerError, parse_causes, script_name
-from pdsuite.programs.protocol import refusal_name
+from pdsuite.programs.protocol import (
+    LONGEST_CAUSE,
+    SETTLE,
+    Cause,
+    UnexpectedAnswerError,
+    parse_causes_by_script_and_line,
+    script_name_of_number,
+)
+from pdsuite.programs.protocol import refusal_kind_if_refused
 from pdsuite.run.explainer import EXPLAIN, JSON
 from pdsuite.scripts.settings import Settings, settings_as_toml
 from pdsuite.scripts.text import LINES, OCTETS
@@ -59,17 +66,17 @@ class _GrowingScript:
             return b"add %s %d\n%s" % (self.name, len(put) + 1, text)
         return b"edit %s %d 1 %d\n%s" % (self.name, begin + 1, len(put) + 1, text)
 
-    def take_cause(self, cause: Cause) -> bool:
+    def take_reported_packets_and_check_complete(self, cause: Cause) -> bool:
         """Takes what the program explains; whether all that left is reported."""
         if cause.get("verdict") != "fail" or cause.get("line") != self.lines + 1:
             raise UnfinishedTransferError(
                 f"line {cause.get('line')} of its script: {cause.get('verdict')}: {cause.get('what')}"
             )
-        for text, by in _reported_packets(cause):
-            self._take_packet(text, by)
+        for text, by in _packets_in_cause_with_sent_by(cause):
+            self._append_expectation_and_departure(text, by)
         return not cause.get("more_untaken_packets")
 
-    def _take_packet(self, text: str, by: object) -> None:
+    def _append_expectation_and_departure(self, text: str, by: object) -> None:
         found = _SENT.search(text)
         if found is None:
             raise UnfinishedTransferError(f"no packet: {printable_text(text)}")
@@ -80,7 +87,7 @@ class _GrowingScript:
             is_by_timer = isinstance(by, Mapping) and "line" not in by
             self.departures.append(SegmentDeparture(int(found[5]) * SECOND + int(found[6]), start, end, is_by_timer))
 
-    def make_reply(self, cause: Cause) -> SenderReply:
+    def make_sender_reply_and_clear_departures(self, cause: Cause) -> SenderReply:
         """What the sender reports of all inputs since the last reply."""
         state = cause.get("state")
         expiry = state.get("expiry_us") if isinstance(state, Mapping) else None
@@ -88,7 +95,7 @@ class _GrowingScript:
         return SenderReply(departures, expiry if isinstance(expiry, int) else None)
 
 
-def _reported_packets(cause: Cause) -> Iterator[tuple[str, object]]:
+def _packets_in_cause_with_sent_by(cause: Cause) -> Iterator[tuple[str, object]]:
     """The packets that are reported, each with what sent it."""
     first = cause.get("actual_packet")
     if isinstance(first, str):
@@ -104,10 +111,10 @@ def play_transfers(
     """What came of transfers that are played against a program under these settings."""
     text = settings_as_toml(settings)
     words: list[str | Path] = [program, EXPLAIN, JSON, *(["--settings", text] if text else [])]
-    batch = _TransferBatch([_GrowingScript(script_name(number), game) for number, game in enumerate(games)])
+    batch = _TransferBatch([_GrowingScript(script_name_of_number(number), game) for number, game in enumerate(games)])
     try:
         with Program(words, stop) as started:
-            batch.play_all(started)
+            batch.play_and_fill_outcomes(started)
     except (ProgramEndedError, UnexpectedAnswerError) as end:
         return [batch.outcomes.get(it.name, UnfinishedTransferError(str(end))) for it in batch.scripts]
     return [batch.outcomes[it.name] for it in batch.scripts]
@@ -120,20 +127,24 @@ class _TransferBatch:
     scripts: Sequence[_GrowingScript]
     outcomes: dict[bytes, TransferOutcome] = field(default_factory=dict)
 
-    def play_all(self, program: Program) -> None:
-        commands = {it.name: self._next_command(it, None) for it in self.scripts}
+    def play_and_fill_outcomes(self, program: Program) -> None:
+        commands = {it.name: self._next_command_or_note_outcome(it, None) for it in self.scripts}
         while pending := {name: it for name, it in commands.items() if it}:
-            causes = _query_causes(program, b"".join(pending.values()), len(pending))
-            commands = {it.name: self._next_command(it, causes[it.name]) for it in self.scripts if it.name in causes}
+            causes = _query_cause_of_each_script(program, b"".join(pending.values()), len(pending))
+            commands = {
+                it.name: self._next_command_or_note_outcome(it, causes[it.name])
+                for it in self.scripts
+                if it.name in causes
+            }
 
-    def _next_command(self, script: _GrowingScript, cause: Cause | None) -> bytes:
+    def _next_command_or_note_outcome(self, script: _GrowingScript, cause: Cause | None) -> bytes:
         """The next command about a script: nothing where the transfer is over."""
         try:
             if cause is None:
                 return script.command_adding_inputs(next(script.game))
-            if not script.take_cause(cause):
+            if not script.take_reported_packets_and_check_complete(cause):
                 return script.command_adding_inputs(())
-            return script.command_adding_inputs(script.game.send(script.make_reply(cause)))
+            return script.command_adding_inputs(script.game.send(script.make_sender_reply_and_clear_departures(cause)))
         except StopIteration as end:
             self.outcomes[script.name] = end.value
         except (StalledTransferError, UnfinishedTransferError) as why:
@@ -141,12 +152,12 @@ class _TransferBatch:
         return b""
 
 
-def _query_causes(program: Program, commands: bytes, count: int) -> dict[bytes, Cause]:
+def _query_cause_of_each_script(program: Program, commands: bytes, count: int) -> dict[bytes, Cause]:
     """What the program explains of the scripts that changed, by their names."""
     answer, errors = program.query_with_errors(commands + SETTLE, (count + 1) * LONGEST_CAUSE)
-    if refusal := refusal_name(answer):
+    if refusal := refusal_kind_if_refused(answer):
         raise UnexpectedAnswerError(f"pdregress refuses a script of a transfer: {refusal}")
-    causes = {name: cause for (name, _), cause in parse_causes(errors).items()}
+    causes = {name: cause for (name, _), cause in parse_causes_by_script_and_line(errors).items()}
     if len(causes) != count:
         raise UnexpectedAnswerError(f"pdregress explains {len(causes)} of {count} scripts")
     return causes

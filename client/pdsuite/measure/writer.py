@@ -17,7 +17,7 @@ class TransferWriter:
     def __init__(self, path: NetworkPath, size: int, room: int) -> None:
         self._path = path
         self._room = room
-        self.total = path.octets_written(size)
+        self.total = path.octets_written_doubled_if_idle(size)
         # Where the parts end, as the number after their last octet.
         self._ends = [size + 1, self.total + 1] if path.idle_us else [size + 1]
         self._part = self._delivered = 0
@@ -29,44 +29,44 @@ class TransferWriter:
         self.time = 0
 
     @property
-    def is_over(self) -> bool:
+    def is_all_acknowledged(self) -> bool:
         """Whether all was written, and is acknowledged."""
         return self._una == self.total + 1
 
-    def due_writes(self, at: int) -> Iterator[int]:
+    def take_due_write_sizes(self, at: int) -> Iterator[int]:
         """What it writes at a moment, write by write."""
         while self._due is not None and self._due <= at and (octets := self._next_write_octets()):
-            if self._written == self._part_begin:
+            if self._written == self._current_part_first_octet:
                 self._begins.append(at)
             self._written += octets
             if self._written == self._ends[self._part]:
                 self._due = None
-            elif self._path.write and (self._written - self._part_begin) % self._path.write == 0:
+            elif self._path.write and (self._written - self._current_part_first_octet) % self._path.write == 0:
                 self._due = at + self._path.write_every_us
             yield octets
 
-    def next_wake_moment(self, at: int) -> int | None:
+    def take_next_wake_moment_if_new(self, at: int) -> int | None:
         """When it wants to write next, if that is later and it hasn't answered so before."""
         if self._due is None or self._due <= at or self._due == self._woken:
             return None
         self._woken = self._due
         return self._due
 
-    def note_acknowledged(self, at: int, number: int) -> None:
+    def note_acknowledged_and_start_next_part(self, at: int, number: int) -> None:
         """Takes note that all octets below a number are acknowledged."""
         self._una = max(self._una, number)
         if self._una == self._ends[self._part] and self._part + 1 < len(self._ends):
             self._part += 1
             self._due = at + self._path.idle_us
 
-    def note_delivered(self, at: int, number: int) -> None:
+    def note_delivered_and_sum_part_times(self, at: int, number: int) -> None:
         """Takes note that the peer has all octets below a number."""
         while self._delivered < len(self._ends) and number >= self._ends[self._delivered]:
             self.time += at - self._begins[self._delivered]
             self._delivered += 1
 
     @property
-    def _part_begin(self) -> int:
+    def _current_part_first_octet(self) -> int:
         """Where the present part begins."""
         return self._ends[self._part - 1] if self._part else 1
 
@@ -74,6 +74,6 @@ class TransferWriter:
         """How much the next write has: nothing where too little of the buffer is free."""
         left = self._ends[self._part] - self._written
         if self._path.write:
-            left = min(left, self._path.write - (self._written - self._part_begin) % self._path.write)
+            left = min(left, self._path.write - (self._written - self._current_part_first_octet) % self._path.write)
         free = self._room - (self._written - self._una)
         return min(left, free, _MOST) if free >= min(left, self._room // 2) else 0

@@ -4,7 +4,7 @@ A report is a `StyledText`: pieces of text, each with a style. `Screen` writes i
 without them elsewhere, and keeps a line of progress at the bottom of a terminal. `Terminal` is what of it needs rich.
 
     octets, names, paths --printable_octets()--> text --StyledText--> Screen --> Terminal, or standard output
-                                                                         '----> standard error: Screen.print_note
+                                                                         '----> print_note_on_stderr: standard error
 
 - Whatever comes from a script, a path or a program goes through `printable_octets` before it is printed or written: it
   is printable afterwards, and no two octet strings look alike. So there is one function for terminals, JSON, XML and

@@ -21,11 +21,11 @@ def printable_octets(octets: bytes, most: int | None = None, also: str = "") -> 
         signs = list(octets.decode("ascii")) if most is not None else None
         text = octets.decode("ascii")
     else:
-        signs = [_escape_character(it, also) for it in octets.decode("utf-8", "surrogateescape")]
+        signs = [_hex_escape_if_unprintable(it, also) for it in octets.decode("utf-8", "surrogateescape")]
         text = "".join(signs)
     if signs is None or most is None or len(text.encode()) <= most:
         return text
-    return _join_fitting_signs(signs, most - len(_CUT)) + _CUT
+    return _longest_fitting_sign_prefix(signs, most - len(_CUT)) + _CUT
 
 
 def printable_text(text: str, most: int | None = None) -> str:
@@ -41,7 +41,7 @@ def printable_path(path: str | Path, also: str = "") -> str:
     return printable_octets(os.fsencode(text), also=also)
 
 
-def absolute_path_function() -> Callable[[str], str]:
+def make_absolute_printable_path_function() -> Callable[[str], str]:
     """What makes a path absolute, as people see it, for as long as the working folder stays the same."""
     here = os.getcwd().rstrip("/")
 
@@ -52,7 +52,7 @@ def absolute_path_function() -> Callable[[str], str]:
     return absolute_printable_path
 
 
-def _escape_character(character: str, also: str) -> str:
+def _hex_escape_if_unprintable(character: str, also: str) -> str:
     if character == "\\" and character not in also:
         return "\\\\"
     if character.isprintable() and character not in also:
@@ -61,7 +61,7 @@ def _escape_character(character: str, also: str) -> str:
     return "".join(f"\\x{octet:02x}" for octet in octets)
 
 
-def _join_fitting_signs(signs: list[str], most: int) -> str:
+def _longest_fitting_sign_prefix(signs: list[str], most: int) -> str:
     """As many of the first signs as fit into so many octets; a sign is never halved."""
     sizes = accumulate(len(sign.encode()) for sign in signs)
     return "".join(sign for sign, size in zip(signs, sizes) if size <= most)

@@ -25,7 +25,7 @@ class Screen:
     """Where reports are written. Only on a terminal are there colours, and a line that says how far the work is."""
 
     def __init__(self, color: bool, progress: bool) -> None:
-        self._terminal = _make_terminal(color, progress) if sys.stdout.isatty() else None
+        self._terminal = _import_and_make_terminal(color, progress) if sys.stdout.isatty() else None
 
     def __enter__(self) -> "Screen":
         return self
@@ -34,7 +34,7 @@ class Screen:
         self.clear_live_lines()
 
     @property
-    def width(self) -> int | None:
+    def terminal_columns_if_any(self) -> int | None:
         """How many columns a terminal has; None where there is none."""
         return None if self._terminal is None else self._terminal.width
 
@@ -52,13 +52,13 @@ class Screen:
         except OSError as error:
             raise OutputError(error) from error
 
-    def print_note(self, line: str) -> None:
+    def print_note_on_stderr(self, line: str) -> None:
         """Says on standard error what no report holds."""
         if self._terminal is None:
-            print_error(line)
+            print_line_on_stderr(line)
             return
-        was_live = self._terminal.clear_live_lines()
-        print_error(line)
+        was_live = self._terminal.clear_live_lines_and_check_bottom()
+        print_line_on_stderr(line)
         if was_live:
             self._terminal.restore_bottom_line()
 
@@ -75,17 +75,17 @@ class Screen:
     def clear_live_lines(self) -> None:
         """Takes the line of progress, and the one at the bottom, away."""
         if self._terminal is not None:
-            self._terminal.clear_live_lines()
+            self._terminal.clear_live_lines_and_check_bottom()
 
 
-def _make_terminal(color: bool, progress: bool) -> "Terminal":
+def _import_and_make_terminal(color: bool, progress: bool) -> "Terminal":
     # Only where there is a terminal is what draws on it paid for.
     from pdsuite.output.terminal import Terminal
 
     return Terminal(color, progress)
 
 
-def print_error(line: str) -> None:
+def print_line_on_stderr(line: str) -> None:
     """Writes a line on standard error, where there is one."""
     if sys.stderr is not None:
         try:
@@ -94,6 +94,6 @@ def print_error(line: str) -> None:
             pass  # nobody reads it
 
 
-def is_color_allowed() -> bool:
+def is_no_color_unset() -> bool:
     """Whether the environment lets colours be: NO_COLOR, if it isn't empty, forbids them."""
     return not os.environ.get("NO_COLOR")

@@ -18,7 +18,7 @@ class Terminal:
         )
         self._progress = self._make_progress_line() if progress else None
         self._task = None if self._progress is None else self._progress.add_task("scripts")
-        self._live = self._make_bottom_line()
+        self._live = self._make_bottom_line_live_display()
 
     @property
     def width(self) -> int:
@@ -44,7 +44,7 @@ class Terminal:
             self._live.start()
         self._live.refresh()
 
-    def clear_live_lines(self) -> bool:
+    def clear_live_lines_and_check_bottom(self) -> bool:
         """Takes the line of progress, and the one at the bottom, away; whether there was one at the bottom."""
         if self._progress is not None and self._progress.live.is_started:
             self._progress.stop()
@@ -57,7 +57,7 @@ class Terminal:
         """Shows the line at the bottom again."""
         self._live.start(refresh=True)
 
-    def _make_bottom_line(self) -> Live:
+    def _make_bottom_line_live_display(self) -> Live:
         return Live(
             console=self._console, auto_refresh=False, transient=True, redirect_stdout=False, redirect_stderr=False
         )

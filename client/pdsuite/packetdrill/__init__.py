@@ -4,7 +4,7 @@
 `HeaderOption`, each with its `Time`), and `layout` says where the fields of each `Event` stand. `recorded` puts a
 recording beside its script: which packet each event met, and how the sender stood after it.
 
-    text --tokens_of--> Token --read_items--> Item --layout_of--> Event, with the place of each field
+    text --tokens_of--> Token --parse_items_until_syntax_error--> Item --layout_of--> Event with the place of each field
                                                    |
     recording with its trace --recorded_events_in--> RecordedEvent --match_events--> MatchedEvent
 

@@ -42,22 +42,27 @@ class PacketField:
 PacketColumns = tuple[PacketField, ...]
 
 
-def columns_of_packets(script: str, actual: str, kind: str) -> tuple[PacketColumns, PacketColumns]:
+def marked_field_columns_of_both_packets(script: str, actual: str, kind: str) -> tuple[PacketColumns, PacketColumns]:
     """Both packets field by field. `kind` is the field by which the script fails, as the program names it."""
     one, other = _PACKET.fullmatch(script), _PACKET.fullmatch(actual)
     if one is None or other is None:
         return (PacketField(script),), (PacketField(actual),)
-    fields = [(name, one[name], other[name], _field_mark(name, one[name], other[name], kind)) for name in _FORMS]
+    fields = [
+        (name, one[name], other[name], _mark_fails_differs_or_none(name, one[name], other[name], kind))
+        for name in _FORMS
+    ]
     pairs = [
-        (_packet_field(name, left, mark), _packet_field(name, right, mark))
+        (_make_marked_packet_field(name, left, mark), _make_marked_packet_field(name, right, mark))
         for name, left, right, mark in fields
         if left or right
     ]
     widths = [max(len(left.text), len(right.text)) for left, right in pairs]
-    return _pad_to_columns([it for it, _ in pairs], widths), _pad_to_columns([it for _, it in pairs], widths)
+    return _packet_fields_with_padding([it for it, _ in pairs], widths), _packet_fields_with_padding(
+        [it for _, it in pairs], widths
+    )
 
 
-def _field_mark(name: str, script: str | None, actual: str | None, kind: str) -> Mark:
+def _mark_fails_differs_or_none(name: str, script: str | None, actual: str | None, kind: str) -> Mark:
     if name == kind:
         return Mark.FAILS
     if name not in _COMPARED or script is None or _do_fields_agree(name, script, actual):
@@ -72,11 +77,11 @@ def _do_fields_agree(name: str, script: str, actual: str | None) -> bool:
     return script == actual or (name == "options" and script == _ANY_OPTIONS)
 
 
-def _packet_field(name: str, value: str | None, mark: Mark) -> PacketField:
+def _make_marked_packet_field(name: str, value: str | None, mark: Mark) -> PacketField:
     return PacketField("", Mark.NONE) if value is None else PacketField(_FORMS[name].format(value), mark)
 
 
-def _pad_to_columns(parts: list[PacketField], widths: list[int]) -> PacketColumns:
+def _packet_fields_with_padding(parts: list[PacketField], widths: list[int]) -> PacketColumns:
     """The parts, each with the blanks up to the next column; the last one with none."""
     last = max(number for number, it in enumerate(parts) if it.text)
     padded = [

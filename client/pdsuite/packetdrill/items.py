@@ -14,7 +14,7 @@ class Time:
     is_relative: bool = True
 
     @property
-    def is_fixed(self) -> bool:
+    def is_single_moment(self) -> bool:
         """Whether it is one moment, and no range."""
         return self.first is not None and self.last is None
 

@@ -6,7 +6,7 @@ from functools import cached_property
 
 from pdsuite.packetdrill.items import Call, Item, Packet
 from pdsuite.packetdrill.lines import Extent
-from pdsuite.packetdrill.reader import read_items
+from pdsuite.packetdrill.reader import parse_items_until_syntax_error
 from pdsuite.packetdrill.tokens import ScriptSyntaxError, Token, TokenKind, tokens_of
 
 
@@ -32,7 +32,7 @@ class Event:
         return Extent(self.item.start, self.item.end)
 
     @property
-    def is_expected(self) -> bool:
+    def is_expected_outbound_packet(self) -> bool:
         """Whether it is a packet that is expected to leave."""
         return isinstance(self.item.what, Packet) and not self.item.what.is_inbound
 
@@ -51,7 +51,7 @@ class Layout:
     fault: ScriptSyntaxError | None
 
     @property
-    def events(self) -> list[Event]:
+    def packets_and_calls(self) -> list[Event]:
         """The packets and calls."""
         return [it for it in self.items if isinstance(it.item.what, Packet | Call)]
 
@@ -59,11 +59,14 @@ class Layout:
         """The item that stands at a place."""
         return next((it for it in self.items if offset in it.extent), None)
 
-    def item_of_line(self, line: int, printed: str = "") -> Event | None:
+    def find_item_starting_on_line(self, line: int, printed: str = "") -> Event | None:
         """The item that begins in a line, counted from 1; of several the one that the program shows as `printed`."""
         found = [it for it in self.items if it.item.line == line]
         alike = [
-            it for it in found if _without_blanks(self.text[it.item.start : it.item.end]) == _without_blanks(printed)
+            it
+            for it in found
+            if _without_plain_and_escaped_blanks(self.text[it.item.start : it.item.end])
+            == _without_plain_and_escaped_blanks(printed)
         ]
         return next(iter([*alike, *found]), None)
 
@@ -73,11 +76,11 @@ NOTHING = Layout("", (), None)
 
 def layout_of(text: str) -> Layout:
     """Where the parts of a text stand, as far as it is a script."""
-    reading = read_items(text)
+    reading = parse_items_until_syntax_error(text)
     return Layout(text, tuple(Event(it, text) for it in reading.items), reading.fault)
 
 
-def _without_blanks(text: str) -> str:
+def _without_plain_and_escaped_blanks(text: str) -> str:
     """A text without blanks, as the program shows others than the blank itself."""
     for blank in (" ", "\t", "\n", "\r", "\\x09", "\\x0a", "\\x0d"):
         text = text.replace(blank, "")
@@ -91,13 +94,13 @@ def _field_extents(text: str, item: Item) -> Mapping[str, Extent]:
     fields = {"time": _extent_of_tokens(time)} if time else {}
     match item.what:
         case Packet():
-            fields |= dict(_packet_fields(action))
+            fields |= dict(_packet_field_extents_after_arrow(action))
         case Call():
-            fields |= dict(_call_fields([it for it in action if it.start >= action[0].start]))
+            fields |= dict(_call_field_extents([it for it in action if it.start >= action[0].start]))
     return fields
 
 
-def _packet_fields(tokens: list[Token]) -> Iterator[tuple[str, Extent]]:
+def _packet_field_extents_after_arrow(tokens: list[Token]) -> Iterator[tuple[str, Extent]]:
     """The fields after the arrow, which may come after the end of a blocking call."""
     arrow = next(place for place, it in enumerate(tokens) if it.text in ("<", ">"))
     number = next(place for place, it in enumerate(tokens) if place > arrow and it.kind is TokenKind.NUMBER)
@@ -111,7 +114,7 @@ def _packet_fields(tokens: list[Token]) -> Iterator[tuple[str, Extent]]:
         yield "options", _extent_of_tokens(rest)
 
 
-def _call_fields(tokens: list[Token]) -> Iterator[tuple[str, Extent]]:
+def _call_field_extents(tokens: list[Token]) -> Iterator[tuple[str, Extent]]:
     """The name, what stands in its brackets, and the result with the name of an error."""
     name = next(place for place, it in enumerate(tokens) if it.kind is TokenKind.WORD)
     yield "call", _extent_of_tokens(tokens[name : name + 1])

@@ -47,7 +47,7 @@ class TextLines:
         """The line that a place lies in."""
         return bisect_right(self._starts, offset) - 1
 
-    def trimmed_line_extent(self, line: int) -> Extent:
+    def line_extent_after_indent(self, line: int) -> Extent:
         """What a line has between its first blanks and its end."""
         content = self.line_content(line)
         start = self.line_start(line)

@@ -5,7 +5,7 @@ from collections.abc import Iterator, Mapping, Sequence
 from dataclasses import dataclass
 from math import inf
 
-from pdsuite.packetdrill.alignment import Fields, align_packets, fields_of
+from pdsuite.packetdrill.alignment import Fields, best_sent_place_by_awaited_place, comparable_fields_of_packet
 from pdsuite.packetdrill.items import SECOND, HeaderOption, Packet, Time
 from pdsuite.packetdrill.layout import Event
 
@@ -67,7 +67,7 @@ def recorded_events_in(recording: str) -> tuple[RecordedEvent, ...]:
     begin = 0
     each: list[RecordedEvent] = []
     for found in _TRACE.finditer(recording):
-        each.append(_parse_recorded_event(recording, begin, found))
+        each.append(_make_event_before_trace_line(recording, begin, found))
         begin = found.end()
     return tuple(each)
 
@@ -77,7 +77,7 @@ def strip_trace(recording: str) -> str:
     return _TRACE.sub("", recording)
 
 
-def _parse_recorded_event(recording: str, begin: int, trace: "re.Match[str]") -> RecordedEvent:
+def _make_event_before_trace_line(recording: str, begin: int, trace: "re.Match[str]") -> RecordedEvent:
     """The event before a line of the trace; comments and the header may come before it."""
     gap = _BEFORE.match(recording, begin, trace.start())
     start = begin if gap is None else gap.end()
@@ -104,7 +104,7 @@ def _fields_of_match(packet: "re.Match[str]") -> Fields:
     return Fields(frozenset(packet["flags"]) - {"-"}, octets, ack, win, "".join((packet["options"] or "").split()))
 
 
-def tolerance_of_script(items: Sequence[Event], settings: int) -> int:
+def tolerance_from_header_or_settings(items: Sequence[Event], settings: int) -> int:
     """The tolerance in microseconds: the last one of the header, else that of the settings."""
     header = [it.item.what for it in items if isinstance(it.item.what, HeaderOption)]
     values = [it.value for it in header if it.name == _TOLERANCE and it.value is not None and it.value.isdecimal()]
@@ -124,7 +124,7 @@ def match_events(
     base = clock = begin
     after: RecordedEvent | None = None
     for number, event in enumerate(events):
-        first, end = _first_moment(event.item.time, base), _last_moment(event.item.time, base)
+        first, end = _first_moment_or_zero(event.item.time, base), _last_moment_or_infinity(event.item.time, base)
         if event.is_input:
             found = inputs.pop(0) if inputs else None
             base = _first_moment_or_base(event.item.time, base)
@@ -132,8 +132,8 @@ def match_events(
             until = inputs[0] if inputs else len(recorded)
             last = inf if number < passed else max(clock, end + tolerance)
             place = pairs.get(number)
-            found = place if place is not None and _left_in_time(recorded, place, until, last) else None
-            base = _base_after(event.item.time, base, None if found is None else recorded[found].moment)
+            found = place if place is not None and _is_sent_in_time(recorded, place, until, last) else None
+            base = _time_base_after_event(event.item.time, base, None if found is None else recorded[found].moment)
         if found is not None:
             after = recorded[found]
             clock = max(clock, after.moment)
@@ -147,10 +147,13 @@ def _pair_outputs(events: Sequence[Event], recorded: Sequence[RecordedEvent], pa
     taken = min(sum(number < passed for number in awaited), len(outputs))
     pairs = dict(zip(awaited[:taken], outputs[:taken]))
     left, sent = awaited[taken:], outputs[taken:]
-    until = _next_input_places(events, recorded)
-    wanted = [fields_of(it.item.what) if isinstance(it.item.what, Packet) else None for it in (events[n] for n in left)]
+    until = _next_recorded_input_by_event(events, recorded)
+    wanted = [
+        comparable_fields_of_packet(it.item.what) if isinstance(it.item.what, Packet) else None
+        for it in (events[n] for n in left)
+    ]
     there = [recorded[place].fields for place in sent]
-    found = align_packets(
+    found = best_sent_place_by_awaited_place(
         [it or _NO_FIELDS for it in wanted],
         [it or _NO_FIELDS for it in there],
         lambda one, other: sent[other] < until[left[one]],
@@ -158,7 +161,7 @@ def _pair_outputs(events: Sequence[Event], recorded: Sequence[RecordedEvent], pa
     return pairs | {left[one]: sent[other] for one, other in found.items()}
 
 
-def _next_input_places(events: Sequence[Event], recorded: Sequence[RecordedEvent]) -> list[int]:
+def _next_recorded_input_by_event(events: Sequence[Event], recorded: Sequence[RecordedEvent]) -> list[int]:
     """For each event the place of the next input after it in the recording, or its end."""
     inputs = [place for place, it in enumerate(recorded) if it.is_input]
     untils, count = [], 0
@@ -168,7 +171,7 @@ def _next_input_places(events: Sequence[Event], recorded: Sequence[RecordedEvent
     return untils
 
 
-def _left_in_time(recorded: Sequence[RecordedEvent], place: int, until: int, last: float) -> bool:
+def _is_sent_in_time(recorded: Sequence[RecordedEvent], place: int, until: int, last: float) -> bool:
     return place < until and recorded[place].moment <= last
 
 
@@ -178,28 +181,28 @@ def _first_moment_or_base(time: Time | None, base: int) -> int:
     return base + time.first if time.is_relative else time.first
 
 
-def _first_moment(time: Time | None, base: int) -> float:
+def _first_moment_or_zero(time: Time | None, base: int) -> float:
     return 0 if time is None or time.first is None else _first_moment_or_base(time, base)
 
 
-def _last_moment(time: Time | None, base: int) -> float:
+def _last_moment_or_infinity(time: Time | None, base: int) -> float:
     if time is None or time.first is None:
         return inf
     last = time.first if time.last is None else time.last
     return base + last if time.is_relative else last
 
 
-def _base_after(time: Time | None, base: int, moment: int | None) -> int:
-    if time is not None and time.is_fixed:
+def _time_base_after_event(time: Time | None, base: int, moment: int | None) -> int:
+    if time is not None and time.is_single_moment:
         return _first_moment_or_base(time, base)
     return base if moment is None else max(base, moment)
 
 
-def last_input_before(events: Sequence[Event], moment: int) -> Event | None:
+def last_input_before_moment(events: Sequence[Event], moment: int) -> Event | None:
     """The last call or packet that arrives before a moment in microseconds, where times that aren't fixed take none."""
     base, found = 0, None
     for it in events:
-        base = _base_after(it.item.time, base, None)
+        base = _time_base_after_event(it.item.time, base, None)
         if base >= moment:
             break
         if it.is_input:

@@ -93,7 +93,7 @@ def _skip_gap(text: str, place: int) -> int:
 def _token_at(text: str, place: int) -> Token:
     if found := _PIECE.match(text, place):
         kind = TokenKind[found.lastgroup or ""]
-        return Token(_kind_of_letters(found[0]) if kind is TokenKind.WORD else kind, found[0], place)
+        return Token(_kind_of_number_hex_or_word(found[0]) if kind is TokenKind.WORD else kind, found[0], place)
     if _OPENING.match(text, place):
         raise ScriptSyntaxError(place, "what is opened here is never closed")
     if found := _SYMBOL.match(text, place):
@@ -101,7 +101,7 @@ def _token_at(text: str, place: int) -> Token:
     raise ScriptSyntaxError(place, "an octet that no script has here")
 
 
-def _kind_of_letters(letters: str) -> TokenKind:
+def _kind_of_number_hex_or_word(letters: str) -> TokenKind:
     if _DIGITS.fullmatch(letters):
         return TokenKind.NUMBER
     return TokenKind.HEX if _HEX.fullmatch(letters) else TokenKind.WORD

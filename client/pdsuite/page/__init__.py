@@ -4,13 +4,13 @@
 templates, and `diagrams` draws the diagram of a script. `PageUpdates` keeps a page up: it hands jobs to processes
 beside this one (`draw_process`) and reads which pages stand.
 
-    PageUpdates --PageJob--> draw_process --carry_out_job--> files in the folder
+    PageUpdates --PageJob--> draw_process --write_table_and_script_pages_of_job--> files in the folder
          ^                    |
          +--- place of each page that stands, or a fault
 
     a page while scripts are watched:
-      drawn --redraw_by_programs: another sender--> marked as of the sender before --> drawn anew --> drawn
-        '--queue_entries: entries changed--> those pages alone are drawn again --> drawn
+      drawn --set_programs_and_discard_drawn: another sender--> marked as of the sender before --> drawn anew --> drawn
+        '--queue_entries_and_advance_drawing: entries changed--> those pages alone are drawn again --> drawn
 
 - All text is escaped by the templates; what comes from a script is shown text already.
 - Only what changed is drawn again: an entry that equals the drawn one keeps its file.

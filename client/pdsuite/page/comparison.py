@@ -13,12 +13,12 @@ from pdsuite.compare.comparison import (
 )
 from pdsuite.compare.groups import group_by_first_difference
 from pdsuite.diagram.failing_line import failing_line_of
-from pdsuite.diagram.timeline import timeline_of
+from pdsuite.diagram.timeline import timeline_if_any_packet
 from pdsuite.files import write_file_atomically
 from pdsuite.output.octets import printable_path
-from pdsuite.packages import missing_module_message
-from pdsuite.page.folder import TABLE, prepare_page_folder, remove_stale_pages
-from pdsuite.page.links import page_file_of
+from pdsuite.packages import message_if_module_missing
+from pdsuite.page.folder import TABLE, prepare_page_folder_or_refuse_foreign_files, remove_stale_pages
+from pdsuite.page.links import page_file_name_of
 from pdsuite.page.render import render_comparison_page
 from pdsuite.programs.trace import traced_events_in
 from pdsuite.programs.verdict import Verdict
@@ -53,10 +53,10 @@ class ComparisonPage:
     """The page in a folder."""
 
     def __init__(self, folder: Path) -> None:
-        prepare_page_folder(folder)
+        prepare_page_folder_or_refuse_foreign_files(folder)
         self._folder = folder
 
-    def write_page(
+    def write_page_and_remove_stale(
         self,
         compared: Sequence[ComparedScript],
         results: tuple[SenderResults, SenderResults],
@@ -64,13 +64,13 @@ class ComparisonPage:
         is_unproved: bool,
     ) -> None:
         """Writes the page."""
-        sections = tuple(_make_sections(compared, results))
+        sections = tuple(_yield_sections_turned_first(compared, results))
         counts: tuple[KindCounts, ...] = tuple(counts_by_folder_and_total(compared))
         write_file_atomically(self._folder / TABLE, render_comparison_page(sections, counts, names, is_unproved))
         remove_stale_pages(self._folder, (), ())
 
 
-def _make_sections(
+def _yield_sections_turned_first(
     compared: Sequence[ComparedScript], results: tuple[SenderResults, SenderResults]
 ) -> Iterator[ComparisonSection]:
     """The scripts that differ, those that turned first, group by group."""
@@ -87,13 +87,16 @@ def _make_sections(
 def _make_section(
     it: ComparedScript, results: tuple[SenderResults, SenderResults], is_drawn: bool, title: str
 ) -> ComparisonSection:
-    pictures = [_make_picture(side, it.index, sender, is_drawn) for side, sender in zip(("before", "after"), results)]
-    name = page_file_of(it.path).removesuffix(".html")
+    pictures = [
+        _picture_or_reason_undrawn(side, it.index, sender, is_drawn)
+        for side, sender in zip(("before", "after"), results)
+    ]
+    name = page_file_name_of(it.path).removesuffix(".html")
     lines = [it.comment] * bool(it.comment) + compared_script_lines(it)
     return ComparisonSection(printable_path(it.path), name, it.kind, tuple(lines), tuple(pictures), title)
 
 
-def _make_picture(side: str, index: int, sender: SenderResults, is_drawn: bool) -> ComparisonPicture:
+def _picture_or_reason_undrawn(side: str, index: int, sender: SenderResults, is_drawn: bool) -> ComparisonPicture:
     """The diagram of a script under one of the senders."""
     recording = sender.recordings.get(index)
     if recording is None or not recording.text:
@@ -102,17 +105,17 @@ def _make_picture(side: str, index: int, sender: SenderResults, is_drawn: bool) 
         )
     if not is_drawn:
         return ComparisonPicture(side, "", f"It isn't drawn, since {_MOST} others are.")
-    if reason := missing_module_message("matplotlib"):
+    if reason := message_if_module_missing("matplotlib"):
         return ComparisonPicture(side, "", f"It isn't drawn: {reason}")
     outcome, text = sender.outcomes[index], sender.texts[index]
     failing = None
     if outcome.row.verdict is Verdict.FAIL and outcome.row.line is not None:
         script = text.octets.decode("utf-8", "surrogateescape")
         failing = failing_line_of(script, outcome.row.line, sender.causes.get(index, {}))
-    strokes = timeline_of(traced_events_in(recording.text), failing)
+    strokes = timeline_if_any_packet(traced_events_in(recording.text), failing)
     if strokes is None:
         return ComparisonPicture(side, "", "There is nothing to draw: no packet comes or leaves.")
     # Only who draws pays for what draws.
-    from pdsuite.diagram.pictures import svg_for_page
+    from pdsuite.diagram.pictures import wide_and_narrow_svgs_for_page
 
-    return ComparisonPicture(side, svg_for_page(strokes))
+    return ComparisonPicture(side, wide_and_narrow_svgs_for_page(strokes))

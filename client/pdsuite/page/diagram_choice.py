@@ -6,7 +6,7 @@ from enum import Enum
 
 from pdsuite.programs.verdict import Verdict
 from pdsuite.run.outcomes import ScriptOutcome
-from pdsuite.scripts.discover import fits_pattern
+from pdsuite.scripts.discover import does_path_or_name_fit_pattern
 
 # So many failing scripts are drawn if no number is given.
 MOST = 50
@@ -28,18 +28,18 @@ class DiagramChoice:
     most: int = MOST
 
 
-def make_diagram_choice(pattern: str | None, most: int | None) -> DiagramChoice:
+def diagram_choice_with_defaults(pattern: str | None, most: int | None) -> DiagramChoice:
     """The choice by two options, each of which may be missing."""
     return DiagramChoice(pattern, MOST if most is None else most)
 
 
-def choose_plots(outcomes: Iterable[ScriptOutcome], wanted: DiagramChoice) -> Iterator[Plot]:
+def choose_plot_of_each_script(outcomes: Iterable[ScriptOutcome], wanted: DiagramChoice) -> Iterator[Plot]:
     """Of each script, in the order of paths, whether it is drawn."""
     left = wanted.most
     for outcome in outcomes:
         is_first = outcome.row.verdict is Verdict.FAIL and left > 0
         left -= is_first
-        if wanted.pattern is not None and fits_pattern(outcome.path, wanted.pattern):
+        if wanted.pattern is not None and does_path_or_name_fit_pattern(outcome.path, wanted.pattern):
             yield Plot.FILES
         else:
             yield Plot.PAGE if is_first else Plot.NONE

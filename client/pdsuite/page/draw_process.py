@@ -5,7 +5,7 @@ import pickle
 import sys
 
 from pdsuite.faults import Fault
-from pdsuite.page.jobs import PageJob, carry_out_job
+from pdsuite.page.jobs import PageJob, write_table_and_script_pages_of_job
 from pdsuite.signals import Stop, StoppedError
 
 # Begins the line that says why it has to end; the status then.
@@ -19,16 +19,16 @@ def main() -> int:
     with Stop() as stop:
         job: PageJob = pickle.load(sys.stdin.buffer)
         try:
-            carry_out_job(job, stop, _print_line)
+            write_table_and_script_pages_of_job(job, stop, _print_line_ignoring_os_errors)
         except StoppedError as stopped:
             return stopped.status
         except Fault as fault:
-            _print_line(f"{FAULT}{fault}")
+            _print_line_ignoring_os_errors(f"{FAULT}{fault}")
             return FAILED
     return 0
 
 
-def _print_line(what: int | str) -> None:
+def _print_line_ignoring_os_errors(what: int | str) -> None:
     try:
         print(what, flush=True)
     except OSError:

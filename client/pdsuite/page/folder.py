@@ -7,15 +7,15 @@ from pathlib import Path
 from pdsuite.faults import Fault, error_reason
 from pdsuite.files import write_file_atomically
 from pdsuite.output.octets import printable_path
-from pdsuite.page.links import FOLDER, PLOTS, is_page_file, is_plot_file
-from pdsuite.page.render import GENERATOR, STATIC, static_file
+from pdsuite.page.links import FOLDER, PLOTS, is_script_page_file, is_plot_file
+from pdsuite.page.render import GENERATOR, STATIC, static_file_octets
 
 TABLE = "index.html"
 _MARK = f'<meta name="generator" content="{GENERATOR}">'.encode()
 _HEAD = 1_024
 
 
-def prepare_page_folder(folder: Path) -> None:
+def prepare_page_folder_or_refuse_foreign_files(folder: Path) -> None:
     """Makes the folder, with what all pages use; a fault where it can't be, or holds what is no part of a page."""
     try:
         if folder.exists() and (other := _first_foreign_name(folder)):
@@ -24,12 +24,12 @@ def prepare_page_folder(folder: Path) -> None:
     except OSError as error:
         raise Fault(f"{printable_path(folder)}: {error_reason(error)}") from error
     for name in STATIC:
-        write_file_atomically(folder / name, static_file(name))
+        write_file_atomically(folder / name, static_file_octets(name))
 
 
 def remove_stale_pages(folder: Path, files: Iterable[str], plots: Collection[str]) -> None:
     """Takes away the pages of scripts, and the files of diagrams, that aren't among these, and a folder of none."""
-    for name, is_ours, stay in ((FOLDER, is_page_file, set(files)), (PLOTS, is_plot_file, set(plots))):
+    for name, is_ours, stay in ((FOLDER, is_script_page_file, set(files)), (PLOTS, is_plot_file, set(plots))):
         for path in (folder / name).iterdir() if (folder / name).exists() else ():
             if is_ours(path.name) and path.name not in stay:
                 path.unlink(missing_ok=True)
@@ -46,7 +46,7 @@ def _first_foreign_name(folder: Path) -> str | None:
     table = folder / TABLE
     if table.exists() and _MARK not in table.read_bytes()[:_HEAD]:
         return TABLE
-    for part, is_ours in ((FOLDER, is_page_file), (PLOTS, is_plot_file)):
+    for part, is_ours in ((FOLDER, is_script_page_file), (PLOTS, is_plot_file)):
         for name in _visible_names(folder / part) if (folder / part).exists() else []:
             if not is_ours(name):
                 return f"{part}/{name}"

@@ -5,7 +5,7 @@ from dataclasses import dataclass
 from pathlib import Path
 
 from pdsuite.files import write_file_atomically
-from pdsuite.page.diagrams import make_script_diagram
+from pdsuite.page.diagrams import make_script_diagram_and_files
 from pdsuite.page.folder import TABLE, remove_stale_pages
 from pdsuite.page.links import FOLDER
 from pdsuite.page.notes import SenderNotes
@@ -14,7 +14,7 @@ from pdsuite.page.view_model import PageEntry, TableRow, script_view_of
 from pdsuite.programs.locate import is_programs_folder_set
 from pdsuite.programs.recorder import Recorder
 from pdsuite.programs.verdict import Verdict
-from pdsuite.run.line_diff import LineDiff, line_diff
+from pdsuite.run.line_diff import LineDiff, line_diff_or_recording_fault
 from pdsuite.signals import Stop
 
 
@@ -36,7 +36,7 @@ class PageJob:
     notes: SenderNotes = SenderNotes()
 
 
-def carry_out_job(job: PageJob, stop: Stop, done: Callable[[int], None]) -> None:
+def write_table_and_script_pages_of_job(job: PageJob, stop: Stop, done: Callable[[int], None]) -> None:
     """Does a job. `done` gets the place of each script whose page stands."""
     if job.rows is not None:
         write_file_atomically(job.folder / TABLE, render_table_page(job.rows, job.is_unproved, job.notes))
@@ -54,18 +54,18 @@ def _has_programs(job: PageJob) -> bool:
 
 
 def _write_script_page(job: PageJob, entry: PageEntry, recorder: Recorder) -> None:
-    diagram = make_script_diagram(entry.outcome, entry.text, entry.plot, entry.cause, recorder, job.folder)
+    diagram = make_script_diagram_and_files(entry.outcome, entry.text, entry.plot, entry.cause, recorder, job.folder)
     sheet = script_view_of(
-        entry, entry.cause, diagram, _line_diff_of_entry(entry, recorder if _has_programs(job) else None)
+        entry, entry.cause, diagram, _known_or_recorded_line_diff(entry, recorder if _has_programs(job) else None)
     )
     write_file_atomically(job.folder / FOLDER / sheet.row.file, render_script_page(sheet, job.is_unproved))
 
 
-def _line_diff_of_entry(entry: PageEntry, recorder: Recorder | None) -> LineDiff | None:
+def _known_or_recorded_line_diff(entry: PageEntry, recorder: Recorder | None) -> LineDiff | None:
     """What each line of a script that fails was met by, where that can be recorded or is known."""
     outcome, text = entry.outcome, entry.text
     if recorder is None or text is None or outcome.row.verdict is not Verdict.FAIL or outcome.line_diff is not None:
         return outcome.line_diff
     written = text.octets.decode("utf-8", "surrogateescape")
-    recording = recorder.record_script(outcome.path, text.octets, outcome.settings)
-    return line_diff(outcome.row, outcome.block_lines, written, recording, outcome.settings)
+    recording = recorder.record_script_or_note_reason(outcome.path, text.octets, outcome.settings)
+    return line_diff_or_recording_fault(outcome.row, outcome.block_lines, written, recording, outcome.settings)

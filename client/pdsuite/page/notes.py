@@ -5,7 +5,7 @@ from dataclasses import dataclass
 
 from pdsuite.compare.comparison import ComparedScript
 from pdsuite.output.octets import printable_path
-from pdsuite.page.links import page_file_of
+from pdsuite.page.links import page_file_name_of
 from pdsuite.reports.comparison import compared_script_lines
 
 # Of so many scripts the table shows how they turned; of all others that they did.
@@ -34,5 +34,6 @@ def turned_scripts_for_table(scripts: Sequence[ComparedScript]) -> tuple[TurnedS
     line_lists = [tuple(compared_script_lines(it)) for it in scripts[:_MOST]]
     line_lists += [()] * (len(scripts) - len(line_lists))
     return tuple(
-        TurnedScript(printable_path(it.path), page_file_of(it.path), lines) for it, lines in zip(scripts, line_lists)
+        TurnedScript(printable_path(it.path), page_file_name_of(it.path), lines)
+        for it, lines in zip(scripts, line_lists)
     )

@@ -8,14 +8,14 @@ from pathlib import Path
 
 from pdsuite.compare.comparison import ComparedScript
 from pdsuite.files import write_file_atomically
-from pdsuite.packages import require_module
-from pdsuite.page.diagram_choice import DiagramChoice, Plot, choose_plots
+from pdsuite.packages import raise_if_module_missing
+from pdsuite.page.diagram_choice import DiagramChoice, Plot, choose_plot_of_each_script
 from pdsuite.page.draw_process import FAILED, FAULT
-from pdsuite.page.folder import prepare_page_folder
+from pdsuite.page.folder import prepare_page_folder_or_refuse_foreign_files
 from pdsuite.page.jobs import PageJob
 from pdsuite.page.links import plot_file_names
 from pdsuite.page.notes import SenderNotes, turned_scripts_for_table
-from pdsuite.page.render import SENDER, sender_style
+from pdsuite.page.render import SENDER, css_marking_pages_of_sender_before
 from pdsuite.page.view_model import PageEntry, table_row_of
 from pdsuite.programs.child_process import ChildProcess
 from pdsuite.signals import Stop
@@ -33,8 +33,8 @@ class PageUpdates:
         self, folder: Path, plots: DiagramChoice, note: Callable[[str], None], is_unproved: bool = False
     ) -> None:
         if plots.pattern is not None:
-            require_module("matplotlib")
-        prepare_page_folder(folder)
+            raise_if_module_missing("matplotlib")
+        prepare_page_folder_or_refuse_foreign_files(folder)
         self._plots = plots
         self._is_unproved = is_unproved
         self.has_failed = False
@@ -57,19 +57,19 @@ class PageUpdates:
 
     def __exit__(self, *error: object) -> None:
         for worker in self._workers:
-            worker.close_and_get_status()
+            worker.terminate_if_running_and_get_status()
 
-    def filenos(self) -> list[int]:
+    def filenos_of_drawing_workers(self) -> list[int]:
         """What can be read once a process has drawn something or has ended."""
         return [it.fileno() for it in self._workers]
 
-    def redraw_by_programs(self, regress: Path, record: Path | None, is_unproved: bool) -> None:
+    def set_programs_and_discard_drawn(self, regress: Path, record: Path | None, is_unproved: bool) -> None:
         """Has all drawn anew by other programs."""
         self._programs = regress, record
         self._is_unproved = is_unproved
         self._is_turning, self._follows = self._follows or self._is_turning, False
         self._drawn = {}
-        self.end_drawing()
+        self.terminate_drawing_workers()
 
     def mark_as_of_sender_before(self, words: str) -> None:
         """Has all pages say that they are of the sender before, and why, until they are drawn of one that stands."""
@@ -77,9 +77,9 @@ class PageUpdates:
         shown_words = words or (_DRAWING if self._is_turning else "")
         if shown_words != self._shown_words:
             self._shown_words = shown_words
-            write_file_atomically(self._folder / SENDER, sender_style(shown_words))
+            write_file_atomically(self._folder / SENDER, css_marking_pages_of_sender_before(shown_words))
 
-    def show_refusals(self, refusals: Sequence[Sequence[str]]) -> None:
+    def show_sender_refusals_in_table(self, refusals: Sequence[Sequence[str]]) -> None:
         """Has the table say why the sender isn't built or proved."""
         lines = tuple(tuple(it) for it in refusals)
         if lines == self._notes.refusals:
@@ -87,30 +87,32 @@ class PageUpdates:
         self._notes = replace(self._notes, refusals=lines)
         if self._follows or not self._entries:
             self._waiting = self._entries
-            self.advance_drawing()
+            self.read_drawn_and_start_waiting()
 
-    def end_drawing(self) -> None:
+    def terminate_drawing_workers(self) -> None:
         """Has what is drawn now ended, since it isn't wanted any more."""
         self._is_ending = True
         for worker in self._workers:
             worker.terminate()
 
-    def queue_entries(self, entries: Sequence[PageEntry], turned: Sequence[ComparedScript] = ()) -> None:
+    def queue_entries_and_advance_drawing(
+        self, entries: Sequence[PageEntry], turned: Sequence[ComparedScript] = ()
+    ) -> None:
         """Has the page drawn of these scripts, as soon as nothing else is drawn; the sender turned some."""
         self._follows = True
-        plots = choose_plots((it.outcome for it in entries), self._plots)
+        plots = choose_plot_of_each_script((it.outcome for it in entries), self._plots)
         self._waiting = self._entries = [replace(it, plot=plot) for it, plot in zip(entries, plots)]
         if turned is not self._turned:
             self._turned, self._notes = turned, replace(self._notes, turned=turned_scripts_for_table(turned))
-        self.advance_drawing()
+        self.read_drawn_and_start_waiting()
 
-    def advance_drawing(self) -> None:
+    def read_drawn_and_start_waiting(self) -> None:
         """Reads what was drawn, and begins what waits."""
         for worker, entries in list(self._workers.items()):
-            self._read_worker(worker, entries)
+            self._note_worker_progress_and_end(worker, entries)
         if self._waiting is not None and not self._workers:
             self._is_ending = False
-            self._start_workers(self._waiting)
+            self._start_workers_for_changed_entries(self._waiting)
             self._waiting = None
         if self._is_turning and self._follows and not self._workers and not self._words:
             self._is_turning = False
@@ -121,11 +123,11 @@ class PageUpdates:
         count = sum(map(len, self._workers.values()))
         while self._workers:
             advance(len(self._drawn), count)
-            select.select([stop.fileno(), *self.filenos()], [], [])
+            select.select([stop.fileno(), *self.filenos_of_drawing_workers()], [], [])
             stop.raise_if_stopped()
-            self.advance_drawing()
+            self.read_drawn_and_start_waiting()
 
-    def _start_workers(self, entries: Sequence[PageEntry]) -> None:
+    def _start_workers_for_changed_entries(self, entries: Sequence[PageEntry]) -> None:
         paths = {it.outcome.path for it in entries}
         self._drawn = {path: it for path, it in self._drawn.items() if path in paths}
         changed = [it for it in entries if self._drawn.get(it.outcome.path) != it]
@@ -140,19 +142,19 @@ class PageUpdates:
             job = PageJob(self._folder, table, plots, share, self._is_unproved, *self._programs, self._notes)
             self._workers[ChildProcess(_DRAWER, job)] = share
 
-    def _read_worker(self, worker: ChildProcess, entries: Sequence[PageEntry]) -> None:
+    def _note_worker_progress_and_end(self, worker: ChildProcess, entries: Sequence[PageEntry]) -> None:
         for line in worker.read_lines():
             if line.startswith(FAULT):
-                self._note_failure(line.removeprefix(FAULT))
+                self._set_failed_and_note_reason(line.removeprefix(FAULT))
             else:
                 entry = entries[int(line)]
                 self._drawn[entry.outcome.path] = entry
         if worker.has_ended:
             del self._workers[worker]
-            status = worker.close_and_get_status()
+            status = worker.terminate_if_running_and_get_status()
             if status not in (0, FAILED) and not self._is_ending:
-                self._note_failure(f"what draws the page ended with status {status}")
+                self._set_failed_and_note_reason(f"what draws the page ended with status {status}")
 
-    def _note_failure(self, reason: str) -> None:
+    def _set_failed_and_note_reason(self, reason: str) -> None:
         self.has_failed = True
         self._note(f"pdsuite: {reason}")

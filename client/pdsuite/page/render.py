@@ -9,7 +9,7 @@ from typing import TYPE_CHECKING
 from jinja2 import Environment, FileSystemLoader, StrictUndefined
 
 from pdsuite.compare.comparison import KindCounts
-from pdsuite.diagram.palette import css_rules
+from pdsuite.diagram.palette import light_and_dark_css_variables
 from pdsuite.page.links import FOLDER, PLOTS
 from pdsuite.page.notes import SenderNotes
 from pdsuite.page.view_model import ScriptView, TableRow
@@ -41,15 +41,19 @@ _RANKS: tuple[Verdict | CountedAs, ...] = (
 )
 
 
-def static_file(name: str) -> bytes:
+def static_file_octets(name: str) -> bytes:
     """A file that all pages use."""
     if name == SENDER:
-        return sender_style("")
+        return css_marking_pages_of_sender_before("")
     octets = (_HERE / "static" / name).read_bytes()
-    return octets + f"\n/* The colours of diagrams. */\n{css_rules(':root')}\n".encode() if name == _STYLE else octets
+    return (
+        octets + f"\n/* The colours of diagrams. */\n{light_and_dark_css_variables(':root')}\n".encode()
+        if name == _STYLE
+        else octets
+    )
 
 
-def sender_style(words: str) -> bytes:
+def css_marking_pages_of_sender_before(words: str) -> bytes:
     """What has all pages say that they are of the sender before, and why, and dims them; nothing without words."""
     if not words:
         return b""
@@ -62,12 +66,12 @@ def render_table_page(rows: Sequence[TableRow], is_unproved: bool = False, notes
     """The page with the table: what fails stands first, and what is counted alike in the order of paths."""
     counts = Counter(it.counted_as for it in rows)
     tallies = [(it, counts[it]) for it in (*Verdict, *CountedAs) if counts[it]]
-    ranked = sorted(rows, key=_table_rank)
+    ranked = sorted(rows, key=_verdict_and_warning_rank)
     values = {"rows": ranked, "tallies": tallies, "folder": FOLDER, "is_unproved": is_unproved}
     return _fill_template("table.html", notes=notes, **values)
 
 
-def _table_rank(row: TableRow) -> tuple[int, bool]:
+def _verdict_and_warning_rank(row: TableRow) -> tuple[int, bool]:
     """Which verdicts come first; of those that pass the ones that are warned of."""
     return _RANKS.index(row.counted_as), row.counted_as is Verdict.PASS and not row.why
 

@@ -4,23 +4,23 @@ from collections.abc import Iterator, Mapping
 from dataclasses import dataclass
 
 from pdsuite.output.octets import printable_octets, printable_path
-from pdsuite.packetdrill.columns import Mark, PacketColumns, PacketField, columns_of_packets
+from pdsuite.packetdrill.columns import Mark, PacketColumns, PacketField, marked_field_columns_of_both_packets
 from pdsuite.page.diagram_choice import Plot
 from pdsuite.page.diagrams import Diagram
-from pdsuite.page.links import page_file_of
+from pdsuite.page.links import page_file_name_of
 from pdsuite.programs.cause_text import (
     STATE,
     WORDS,
-    dropped_segments,
+    dropped_segment_lines_and_rules,
     make_printable,
-    origin_in_words,
-    unmatched_packets,
-    value_in_words,
+    origin_line_or_timer,
+    unmatched_packets_with_origins,
+    value_in_words_without_unit,
 )
-from pdsuite.programs.cause_text import packet_with_sender
+from pdsuite.programs.cause_text import packet_with_origin_line_or_timer
 from pdsuite.programs.protocol import Cause
 from pdsuite.programs.verdict import Verdict
-from pdsuite.reports.outcome_text import lines_below_row, reason_for_row, warning_texts
+from pdsuite.reports.outcome_text import explanation_or_line_below_row, reason_for_row, warning_texts
 from pdsuite.run.line_diff import DiffLine, LineDiff
 from pdsuite.run.outcomes import CountedAs, ScriptOutcome
 from pdsuite.scripts.settings import value_as_toml
@@ -137,20 +137,20 @@ def table_row_of(outcome: ScriptOutcome) -> TableRow:
     row = outcome.row
     return TableRow(
         printable_path(outcome.path),
-        page_file_of(outcome.path),
+        page_file_name_of(outcome.path),
         row.verdict,
         outcome.counted_as,
         "" if row.verdict is Verdict.ERROR else row.word,
-        outcome.line,
-        _shown_row_text(outcome),
-        _reason_or_warnings(outcome),
-        _expectation_words(outcome),
+        outcome.explained_or_row_line_number,
+        _stripped_text_of_row_line(outcome),
+        _warnings_or_reason_for_row(outcome),
+        _expected_row_in_words(outcome),
     )
 
 
-def _shown_row_text(outcome: ScriptOutcome) -> str:
+def _stripped_text_of_row_line(outcome: ScriptOutcome) -> str:
     """The line of its text that the row is about, as it is shown."""
-    if outcome.line != outcome.row.line and outcome.block_lines:
+    if outcome.explained_or_row_line_number != outcome.row.line and outcome.block_lines:
         return outcome.block_lines[0].strip()  # the program marks another one than the row has
     return "" if outcome.text is None else printable_octets(outcome.text.expandtabs().strip(), _LONGEST_LINE)
 
@@ -161,36 +161,39 @@ def script_view_of(entry: PageEntry, cause: Cause | None, diagram: Diagram, met:
     return ScriptView(
         row=table_row_of(outcome),
         events=outcome.row.number if outcome.row.verdict is Verdict.PASS else None,
-        lines=tuple(_script_lines(entry.text, outcome.line)) if entry.text else (),
+        lines=tuple(_numbered_script_lines(entry.text, outcome.explained_or_row_line_number)) if entry.text else (),
         settings=tuple(NamedFact(key, make_printable(value_as_toml(value))) for key, value in outcome.settings),
         packets=_compared_packets(explanation),
-        reason=_text_of_key(explanation, "reason_words"),
-        refused=_refused_text(explanation),
+        reason=_printable_text_of_key_or_empty(explanation, "reason_words"),
+        refused=_refused_text_split_at_column(explanation),
         facts=tuple(_cause_facts(explanation)),
-        unmatched=tuple(_unmatched_packets(explanation)),
-        more_unmatched=_number_of_key(explanation, "more_untaken_packets"),
+        unmatched=tuple(_unmatched_sent_packet_texts(explanation)),
+        more_unmatched=_number_of_key_or_zero(explanation, "more_untaken_packets"),
         state=tuple(_state_facts(explanation)),
-        below=() if explanation else tuple(lines_below_row(outcome)),
+        below=() if explanation else tuple(explanation_or_line_below_row(outcome)),
         diagram=diagram,
         met=() if met is None else met.lines,
     )
 
 
 def _cause_facts(explanation: Cause) -> Iterator[NamedFact]:
-    if sender := origin_in_words(explanation.get("sent_by")):
+    if sender := origin_line_or_timer(explanation.get("sent_by")):
         yield NamedFact("sent by", sender)
     for key, words in WORDS.items():
         if key in explanation and key not in _ELSEWHERE:
-            yield NamedFact(words, _value_with_unit(key, explanation[key]))
-    for it in dropped_segments(explanation):
+            yield NamedFact(words, _value_text_with_unit_of_seconds(key, explanation[key]))
+    for it in dropped_segment_lines_and_rules(explanation):
         yield NamedFact("dropped", make_printable(it))
 
 
-def _unmatched_packets(explanation: Cause) -> Iterator[str]:
-    return (make_printable(packet_with_sender(packet, origin)) for packet, origin in unmatched_packets(explanation))
+def _unmatched_sent_packet_texts(explanation: Cause) -> Iterator[str]:
+    return (
+        make_printable(packet_with_origin_line_or_timer(packet, origin))
+        for packet, origin in unmatched_packets_with_origins(explanation)
+    )
 
 
-def _expectation_words(outcome: ScriptOutcome) -> str:
+def _expected_row_in_words(outcome: ScriptOutcome) -> str:
     """Which row is expected, and why, where one is."""
     expected = outcome.expected
     if expected is None or outcome.row.verdict is Verdict.NOT_RUN:
@@ -198,35 +201,39 @@ def _expectation_words(outcome: ScriptOutcome) -> str:
     return expected.reason if outcome.is_known_failure else f'"{expected.row}" is expected ({expected.reason})'
 
 
-def _reason_or_warnings(outcome: ScriptOutcome) -> str:
+def _warnings_or_reason_for_row(outcome: ScriptOutcome) -> str:
     """Why a row is so, as far as that is explained, or what is warned of."""
     if outcome.row.verdict is Verdict.ERROR:
         return outcome.row.word
     return "; ".join(warning_texts(outcome)) or reason_for_row(outcome)
 
 
-def _script_lines(text: ScriptText, named: int | None) -> Iterator[ScriptLine]:
+def _numbered_script_lines(text: ScriptText, named: int | None) -> Iterator[ScriptLine]:
     for number, line in enumerate(text.octets.split(b"\n")[: text.lines], 1):
         yield ScriptLine(number, printable_octets(line.removesuffix(b"\r").expandtabs()), number == named)
 
 
 def _compared_packets(explanation: Cause) -> tuple[tuple[str, PacketColumns], ...]:
     """The packet of the script, and below it the one that was sent, if one was."""
-    script, actual = _text_of_key(explanation, "script_packet"), _text_of_key(explanation, "actual_packet")
+    script, actual = _printable_text_of_key_or_empty(explanation, "script_packet"), _printable_text_of_key_or_empty(
+        explanation, "actual_packet"
+    )
     if not script:
         return ()
     if not actual:
         return (("script packet", (PacketField(script),)), ("actual packet", ()))
-    one, other = columns_of_packets(script, actual, _text_of_key(explanation, "kind"))
+    one, other = marked_field_columns_of_both_packets(
+        script, actual, _printable_text_of_key_or_empty(explanation, "kind")
+    )
     return ("script packet", one), ("actual packet", other)
 
 
-def _refused_text(explanation: Cause) -> RefusedText | None:
+def _refused_text_split_at_column(explanation: Cause) -> RefusedText | None:
     if "expected" not in explanation:
         return None
-    text, column = _text_of_key(explanation, "text"), explanation.get("column")
+    text, column = _printable_text_of_key_or_empty(explanation, "text"), explanation.get("column")
     place = column if isinstance(column, int) else len(text)
-    return RefusedText(text[:place], text[place:], _texts_of_key(explanation, "expected"))
+    return RefusedText(text[:place], text[place:], _printable_texts_of_key(explanation, "expected"))
 
 
 def _state_facts(explanation: Cause) -> Iterator[NamedFact]:
@@ -234,25 +241,25 @@ def _state_facts(explanation: Cause) -> Iterator[NamedFact]:
     if isinstance(state, Mapping):
         for key, word in {"name": "state", **STATE}.items():
             if key in state:
-                yield NamedFact(word, _value_with_unit(key, state[key]), _GLOSSES.get(key, ""))
+                yield NamedFact(word, _value_text_with_unit_of_seconds(key, state[key]), _GLOSSES.get(key, ""))
 
 
-def _value_with_unit(key: str, value: object) -> str:
+def _value_text_with_unit_of_seconds(key: str, value: object) -> str:
     """A value as people see it, with the unit of moments and spans."""
     unit = " s" if key.endswith("_us") and value is not None else ""
-    return f"{make_printable(value_in_words(key, value))}{unit}"
+    return f"{make_printable(value_in_words_without_unit(key, value))}{unit}"
 
 
-def _text_of_key(explanation: Cause, key: str) -> str:
+def _printable_text_of_key_or_empty(explanation: Cause, key: str) -> str:
     value = explanation.get(key)
     return make_printable(value) if isinstance(value, str) else ""
 
 
-def _texts_of_key(explanation: Cause, key: str) -> tuple[str, ...]:
+def _printable_texts_of_key(explanation: Cause, key: str) -> tuple[str, ...]:
     values = explanation.get(key)
     return tuple(make_printable(it) for it in values if isinstance(it, str)) if isinstance(values, list) else ()
 
 
-def _number_of_key(explanation: Cause, key: str) -> int:
+def _number_of_key_or_zero(explanation: Cause, key: str) -> int:
     value = explanation.get(key)
     return value if isinstance(value, int) else 0

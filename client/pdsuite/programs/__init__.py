@@ -6,7 +6,7 @@ recorded. Where nothing is proved, `build` makes both programs without proofs, a
 `unproved_session` run a tree's sources by `rt try`.
 
     a program:  started --query--> answers .. answers --kill_and_close, or ProgramEndedError--> ended
-    a build:    begun --> reading --> compiling --> linking --> programs_folder(), BuildError or NoKeptBuildError
+    a build:    begun --> reading --> compiling --> linking --> a folder, BuildError or NoKeptBuildError
                   '--> waiting, while another call builds the same --> as above
 
 - No other package starts a program. A `Program` is in a process group of its own, and ends with its `with` block.

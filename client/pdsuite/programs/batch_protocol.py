@@ -70,9 +70,9 @@ def batch_input(cases: Iterable[Case]) -> bytes:
     return b"".join(with_length_line("\0".join(it.words).encode()) + with_length_line(it.given) for it in cases)
 
 
-def parse_batch_answers(output: bytes, errors: bytes, status: str, count: int) -> list[ProgramAnswer]:
+def parse_batch_answers_or_faults(output: bytes, errors: bytes, status: str, count: int) -> list[ProgramAnswer]:
     """The answers to the cases of a run, which has ended with this status, a number or why there is none."""
-    each = list(take_length_prefixed(bytearray(output))) if status == "0" else []
+    each = list(take_whole_length_prefixed_parts(bytearray(output))) if status == "0" else []
     if len(each) == 3 * count:
         return [
             answer_from_status(written, errors, ended.decode().strip())
@@ -100,14 +100,14 @@ def with_length_line(octets: bytes) -> bytes:
     return b"%d\n%b" % (len(octets), octets)
 
 
-def take_length_prefixed(octets: bytearray) -> Iterator[bytes]:
+def take_whole_length_prefixed_parts(octets: bytearray) -> Iterator[bytes]:
     """Takes the octets that stand after a line with their number each, up to what isn't whole."""
     while (found := _NUMBER.match(octets)) and len(octets) >= (end := found.end() + int(found[1])):
         yield bytes(octets[found.end() : end])
         del octets[:end]
 
 
-def prepend_program_and_words(program: str, words: Sequence[str], cases: Iterable[Case]) -> Iterator[Case]:
+def cases_with_program_and_words(program: str, words: Sequence[str], cases: Iterable[Case]) -> Iterator[Case]:
     """The cases with the words of all, before which the program is named."""
     for it in cases:
         yield Case((program, *words, *it.words), it.given, it.room, it.is_alone)

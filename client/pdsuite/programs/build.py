@@ -40,10 +40,10 @@ def find_kept_build(tree: Path, mode: BuildMode = "any") -> Path | None:
     if not BUILD_TOOL.is_file():
         return None
     done = subprocess.run(command, stdin=subprocess.DEVNULL, capture_output=True, process_group=0)
-    return _folder_in_output(done.stdout) if done.returncode == 0 else None
+    return _last_built_folder_in_output(done.stdout) if done.returncode == 0 else None
 
 
-def build_if_needed(
+def build_if_needed_and_get_folder(
     tree: Path, mode: BuildMode, stop: Stop, note: Callable[[str, float], None] = lambda *_: None
 ) -> Path:
     """The folder of both programs of a tree, built now if need be; a note comes with each phase and about each second.
@@ -62,7 +62,7 @@ def build_if_needed(
             building.read_progress()
             if building.phase:
                 note(building.phase, building.phase_seconds)
-        return building.programs_folder()
+        return building.wait_and_require_programs_folder()
 
 
 class Build:
@@ -115,11 +115,11 @@ class Build:
         if lines and printable_octets(lines[-1]) != self.phase:
             self.phase, self._begin = printable_octets(lines[-1]), time.monotonic()
 
-    def programs_folder(self) -> Path:
+    def wait_and_require_programs_folder(self) -> Path:
         """The folder of both programs, once it is over. Raises BuildError and NoKeptBuildError."""
         status = self._process.wait()
         if status == 0:
-            return _folder_in_output(self._got)
+            return _last_built_folder_in_output(self._got)
         self._errors.seek(0)
         first, *lines = self._errors.read().splitlines() or [b"the tool ended with status %d" % status]
         reason = printable_octets(first).partition("unproved: ")[2] or printable_octets(first)
@@ -145,7 +145,7 @@ def _build_command(tree: Path, mode: BuildMode, *words: str) -> list[str | Path]
     return [sys.executable, "-EsSB", BUILD_TOOL, "--way", mode, "--tree", tree, *words]
 
 
-def _folder_in_output(output: bytes) -> Path:
+def _last_built_folder_in_output(output: bytes) -> Path:
     """The folder that the tool names last."""
     *_, last = output.splitlines()
     return Path(os.fsdecode(last.removeprefix(_BUILT)))

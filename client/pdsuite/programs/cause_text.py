@@ -49,17 +49,17 @@ _ESCAPE = re.compile(r"\\x[0-9A-Fa-f]{2}")
 _ESCAPED = 4
 
 
-def block_lines_of(cause: Cause) -> tuple[str, ...]:
+def explanation_lines_below_first(cause: Cause) -> tuple[str, ...]:
     """The lines of a block below its first one, safe to print (docs/EXPLAIN.md)."""
-    lines = [_cut_long_line(it) for it in _cause_lines(cause)]
+    lines = [_cut_end_of_long_line(it) for it in _cause_lines_without_state(cause)]
     state = cause.get("state")
     if isinstance(state, Mapping):
         line = _state_line(state)
-        lines.append(line if "prr_out" in state else _cut_long_line(line))
+        lines.append(line if "prr_out" in state else _cut_end_of_long_line(line))
     return tuple(map(make_printable, lines))
 
 
-def value_in_words(key: str, value: object) -> str:
+def value_in_words_without_unit(key: str, value: object) -> str:
     """What stands under a key, in words; of moments and spans seconds."""
     if value is None:
         return _NULLS.get(key, "none")
@@ -68,7 +68,7 @@ def value_in_words(key: str, value: object) -> str:
     return str(value)
 
 
-def dropped_segments(cause: Cause) -> Iterator[str]:
+def dropped_segment_lines_and_rules(cause: Cause) -> Iterator[str]:
     """The segments that checks dropped before a missing packet, each with its line and its check."""
     found = cause.get("dropped_segments")
     for it in found if isinstance(found, list) else []:
@@ -76,14 +76,14 @@ def dropped_segments(cause: Cause) -> Iterator[str]:
             yield f"line {it.get('line')}: {it.get('rule_words')}"
 
 
-def origin_in_words(origin: object) -> str:
+def origin_line_or_timer(origin: object) -> str:
     """What sent a packet: a line, or the timer; empty where that isn't known."""
     if not isinstance(origin, Mapping):
         return ""
     return f"line {origin['line']}" if "line" in origin else "the timer"
 
 
-def unmatched_packets(cause: Cause) -> Iterator[tuple[str, object]]:
+def unmatched_packets_with_origins(cause: Cause) -> Iterator[tuple[str, object]]:
     """The unmatched packets that are listed, each with what sent it, where that is known."""
     packets, origins = cause.get("untaken_packets"), cause.get("untaken_sent_by")
     senders = chain(origins if isinstance(origins, list) else [], repeat(None))
@@ -92,9 +92,9 @@ def unmatched_packets(cause: Cause) -> Iterator[tuple[str, object]]:
             yield packet, origin
 
 
-def packet_with_sender(packet: str, origin: object) -> str:
+def packet_with_origin_line_or_timer(packet: str, origin: object) -> str:
     """A packet with what sent it, where that is known."""
-    sender = origin_in_words(origin)
+    sender = origin_line_or_timer(origin)
     return f"{packet}, sent by {sender}" if sender else packet
 
 
@@ -103,12 +103,14 @@ def make_printable(text: str) -> str:
     return text if text.isprintable() else printable_text(text)
 
 
-def _cause_lines(cause: Cause) -> Iterator[str]:
-    yield from _insert_lines(cause)
+def _cause_lines_without_state(cause: Cause) -> Iterator[str]:
+    yield from _mend_by_inserting_lines(cause)
     for key, words in WORDS.items():
         if key in cause:
-            value = value_in_words(key, cause[key])
-            yield f"{words}: {packet_with_sender(value, cause.get('sent_by')) if key == 'actual_packet' else value}"
+            value = value_in_words_without_unit(key, cause[key])
+            if key == "actual_packet":
+                value = packet_with_origin_line_or_timer(value, cause.get("sent_by"))
+            yield f"{words}: {value}"
     if "text" in cause:
         yield from _line_with_mark(str(cause["text"]), cause.get("column"))
     if "found" in cause:
@@ -117,24 +119,26 @@ def _cause_lines(cause: Cause) -> Iterator[str]:
         if key in cause:
             found = cause[key]
             yield f"{key}:{_join_with_or(found)}" if isinstance(found, list) else f"{key}: {found}"
-    for it in dropped_segments(cause):
+    for it in dropped_segment_lines_and_rules(cause):
         yield f"dropped: {it}"
-    for packet, origin in unmatched_packets(cause):
-        yield f"untaken packet: {packet_with_sender(packet, origin)}"
+    for packet, origin in unmatched_packets_with_origins(cause):
+        yield f"untaken packet: {packet_with_origin_line_or_timer(packet, origin)}"
     if more := cause.get("more_untaken_packets"):
         yield f"more untaken packets: {more}"
 
 
 def _state_line(state: Mapping[str, object]) -> str:
-    numbers = (f"{words}:{value_in_words(key, state[key])}" for key, words in STATE.items() if key in state)
+    numbers = (
+        f"{words}:{value_in_words_without_unit(key, state[key])}" for key, words in STATE.items() if key in state
+    )
     return " ".join([f"state: {state.get('name')}", *numbers])
 
 
-def _insert_lines(cause: Cause) -> Iterator[str]:
+def _mend_by_inserting_lines(cause: Cause) -> Iterator[str]:
     """The packets that no line expects: the one that differs, and those unmatched that follow it."""
     count = cause.get("unasked_packets")
     if isinstance(count, int):
-        packets = [str(cause.get("actual_packet")), *(packet for packet, _ in unmatched_packets(cause))]
+        packets = [str(cause.get("actual_packet")), *(packet for packet, _ in unmatched_packets_with_origins(cause))]
         yield from (f"mend by inserting: {it}" for it in packets[:count])
 
 
@@ -156,7 +160,7 @@ def _join_with_or(items: list[object]) -> str:
     return f" {', '.join(first)} or {last}" if first else f" {last}".rstrip()
 
 
-def _cut_long_line(line: str) -> str:
+def _cut_end_of_long_line(line: str) -> str:
     end = _shown_end(line, 0)
     return line if end == len(line) else line[:end] + _CUT
 

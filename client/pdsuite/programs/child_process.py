@@ -50,7 +50,7 @@ class ChildProcess:
         """Requests its end."""
         self._process.terminate()
 
-    def close_and_get_status(self) -> int:
+    def terminate_if_running_and_get_status(self) -> int:
         """Its status, once it has ended: by itself if it has, else since that is requested, or has to be."""
         if not self.has_ended:
             self.terminate()

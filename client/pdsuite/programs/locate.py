@@ -25,7 +25,7 @@ class UnprovedError(Fault):
     """That a program isn't proved and built, or has changed since."""
 
 
-def locate_program(name: str) -> Path:
+def locate_given_or_proved_program(name: str) -> Path:
     """The built program of this name."""
     if folder := os.environ.get(PROGRAMS_VARIABLE):
         path = Path(folder, name).absolute()
@@ -34,7 +34,7 @@ def locate_program(name: str) -> Path:
         return path
     if PACKAGE_VERSION.exists():
         return TOP.parents[1] / "bin" / name
-    return find_proved_program(name, TOP)
+    return require_proved_program(name, TOP)
 
 
 def use_programs_folder(folder: Path) -> None:
@@ -47,7 +47,7 @@ def is_programs_folder_set() -> bool:
     return bool(os.environ.get(PROGRAMS_VARIABLE))
 
 
-def find_proved_program(name: str, top: Path) -> Path:
+def require_proved_program(name: str, top: Path) -> Path:
     """The proved program of this name in a tree."""
     done = subprocess.run(
         [top / PROVED_TOOL, name],
@@ -60,13 +60,13 @@ def find_proved_program(name: str, top: Path) -> Path:
     return Path(os.fsdecode(done.stdout.removesuffix(b"\n")))
 
 
-def tree_of_launchers(folder: Path) -> Path | None:
+def find_tree_if_launcher_folder(folder: Path) -> Path | None:
     """The tree whose launchers a folder has, or links to them. A launcher also runs what isn't proved."""
     top = (folder / REGRESS).resolve().parent
     return top if (top / PROVED_TOOL).is_file() and (top / "crates.txt").is_file() else None
 
 
-def client_commit() -> str:
+def client_version_or_commit() -> str:
     """The commit that this client is of, with `-dirty` where files differ from it; before it the package's version."""
     if PACKAGE_VERSION.exists():
         return printable_octets(PACKAGE_VERSION.read_bytes().strip())

@@ -14,10 +14,16 @@ from pathlib import Path
 from typing import TypeVar
 
 from pdsuite.faults import Fault, error_reason
-from pdsuite.file_stamps import Stamp, are_stamps_current, shows_any_later_write, stamp_of
+from pdsuite.file_stamps import Stamp, are_stamps_current, shows_any_later_write, stamp_or_errno_of_file
 from pdsuite.output.octets import printable_path
 from pdsuite.programs.locate import BUILD_TOOL, PACKAGE_VERSION, PROGRAMS_VARIABLE, PROVED_TOOL, TOP
-from pdsuite.programs.locate import UnprovedError, find_proved_program, locate_program, sha256_of, tree_of_launchers
+from pdsuite.programs.locate import (
+    UnprovedError,
+    require_proved_program,
+    locate_given_or_proved_program,
+    sha256_of,
+    find_tree_if_launcher_folder,
+)
 
 # While files change all the time, the tools are queried so often.
 _TRIES = 5
@@ -48,7 +54,7 @@ class StampedProgram:
     @property
     def is_file_unchanged(self) -> bool:
         """Whether the file is the one that was found."""
-        return stamp_of(self.path) == self.stamp
+        return stamp_or_errno_of_file(self.path) == self.stamp
 
     def raise_if_changed(self) -> None:
         """Raises SenderChangedError where the file isn't the one that was found."""
@@ -59,7 +65,7 @@ class StampedProgram:
 def stamped_program(path: Path) -> StampedProgram:
     """A program as it stands at a path; a fault where it can't be read."""
     try:
-        return StampedProgram(path, stamp_of(path), sha256_of(path))
+        return StampedProgram(path, stamp_or_errno_of_file(path), sha256_of(path))
     except OSError as error:
         raise Fault(f"{printable_path(path)}: {error_reason(error)}") from error
 
@@ -91,28 +97,28 @@ class ProgramLookup:
         self._files = files
         self._seen: _LookupState | None = None
 
-    def current_programs(self) -> Mapping[str, FoundProgram]:
+    def current_programs_or_faults(self) -> Mapping[str, FoundProgram]:
         """What stands now, by the names of programs."""
-        return self._current_state().found
+        return self._cached_or_requeried_state().found
 
     def require_program(self, name: str) -> StampedProgram:
         """The program of this name that stands now; a fault where none does."""
-        found = self.current_programs()[name]
+        found = self.current_programs_or_faults()[name]
         if isinstance(found, Fault):
             raise found
         return found
 
     def source_stamps(self) -> Mapping[str, Stamp]:
         """The stamps of all files that aren't made beside a program. A folder is what lies in it."""
-        seen = self._current_state()
+        seen = self._cached_or_requeried_state()
         return {path: it for path, it in seen.stamps.items() if path not in seen.folders and _MADE not in path}
 
     def folders_to_watch(self) -> set[str]:
         """The folders in which something that counts may change."""
-        seen = self._current_state()
+        seen = self._cached_or_requeried_state()
         return {*seen.folders, *(str(Path(it).parent) for it in seen.stamps)}
 
-    def _current_state(self) -> _LookupState:
+    def _cached_or_requeried_state(self) -> _LookupState:
         if self._seen is None or not self._seen.is_surely_current():
             self._seen = self._query_until_stable()
         return self._seen
@@ -122,9 +128,9 @@ class ProgramLookup:
         for _ in range(_TRIES):
             moment = time.time_ns()
             paths = [path for name in self._names for path in self._files(name)]
-            stamps = {path: stamp_of(path) for path in paths}
+            stamps = {path: stamp_or_errno_of_file(path) for path in paths}
             found = {name: self._program_or_fault(name) for name in self._names}
-            if stamps == {path: stamp_of(path) for path in paths}:
+            if stamps == {path: stamp_or_errno_of_file(path) for path in paths}:
                 folders = frozenset(filter(isdir, stamps))
                 return _LookupState(
                     found,
@@ -148,7 +154,7 @@ class SenderGuard:
     """Sees whether senders stay as they were when this was made: proved programs, or else the sources of a tree."""
 
     def __init__(self, *looks: ProgramLookup) -> None:
-        self._looks = _map_in_threads(lambda it: (it, it.current_programs(), it.source_stamps()), looks)
+        self._looks = _map_in_threads(lambda it: (it, it.current_programs_or_faults(), it.source_stamps()), looks)
 
     def require_unchanged(self, consequence: str) -> None:
         """A fault where one isn't as it was; it names the consequence."""
@@ -172,7 +178,7 @@ def _map_in_threads(work: Callable[[T], U], each: Sequence[T]) -> list[U]:
 
 
 def _has_lookup_changed(lookup: ProgramLookup, found: Mapping[str, FoundProgram], sources: Mapping[str, Stamp]) -> bool:
-    now = lookup.current_programs()
+    now = lookup.current_programs_or_faults()
     proved = [name for name, it in found.items() if isinstance(it, StampedProgram)]
     return any(now[name] != found[name] for name in proved) if proved else lookup.source_stamps() != sources
 
@@ -181,18 +187,20 @@ def client_programs_lookup(*names: str) -> ProgramLookup:
     """A look at the programs of this client: those of a folder that is named, of its package, or of its tree."""
     if word := environ.get(PROGRAMS_VARIABLE):
         folder = Path(word)
-        if tree := tree_of_launchers(folder):
+        if tree := find_tree_if_launcher_folder(folder):
             return proved_programs_lookup(tree, *names)
-        return ProgramLookup(names, locate_program, lambda name: [str((folder / name).absolute())])
+        return ProgramLookup(names, locate_given_or_proved_program, lambda name: [str((folder / name).absolute())])
     if PACKAGE_VERSION.exists():
-        return ProgramLookup(names, locate_program, lambda name: [str(locate_program(name))])
+        return ProgramLookup(
+            names, locate_given_or_proved_program, lambda name: [str(locate_given_or_proved_program(name))]
+        )
     return proved_programs_lookup(TOP, *names)
 
 
-def buildable_tree() -> Path | None:
+def find_own_tree_if_buildable() -> Path | None:
     """The tree whose sender is built without proofs where it isn't proved: that of this client, or of its launchers."""
     if word := environ.get(PROGRAMS_VARIABLE):
-        tree = tree_of_launchers(Path(word))
+        tree = find_tree_if_launcher_folder(Path(word))
     else:
         tree = None if PACKAGE_VERSION.exists() else TOP
     return tree if BUILD_TOOL.is_file() else None
@@ -200,7 +208,7 @@ def buildable_tree() -> Path | None:
 
 def proved_programs_lookup(top: Path, *names: str) -> ProgramLookup:
     """A look at the proved programs of a tree."""
-    return ProgramLookup(names, lambda name: find_proved_program(name, top), partial(_files_deciding_proof, top))
+    return ProgramLookup(names, lambda name: require_proved_program(name, top), partial(_files_deciding_proof, top))
 
 
 def lookup_by_paths(programs: Mapping[str, Path]) -> ProgramLookup:

@@ -53,10 +53,10 @@ class Program:
         except (OSError, ValueError) as error:
             raise ProgramEndedError(f"{printable_path(Path(words[0]))}: {error_reason(error)}") from error
         try:
-            self._in, self._out, self._err = _prepare_pipes(self._process)
+            self._in, self._out, self._err = _set_pipes_nonblocking_and_get_filenos(self._process)
             self._selector = selectors.EpollSelector()
         except OSError as error:
-            self._kill_group()
+            self._kill_group_and_get_status()
             raise ProgramEndedError(f"{self._name}: {error_reason(error)}") from error
         self._unsent = b""
         # An empty line before what was printed lets every line begin after a newline.
@@ -76,7 +76,7 @@ class Program:
 
     def query(self, commands: bytes, longest: int) -> bytes:
         """What the program answers, up to the line `total`. It is read while the commands are written."""
-        return self._drive_steps(self._answer_steps(commands, longest))
+        return self._drive_generator_until_answer(self._answer_until_total_as_generator(commands, longest))
 
     def query_with_errors(
         self, commands: bytes, longest: int, longest_errors: int | None = None
@@ -85,19 +85,21 @@ class Program:
 
         Neither is longer than `longest`, or what is printed than `longest_errors`, in octets.
         """
-        return self._drive_steps(
-            self.query_steps(commands, longest, longest if longest_errors is None else longest_errors)
+        return self._drive_generator_until_answer(
+            self.query_with_errors_as_generator(
+                commands, longest, longest if longest_errors is None else longest_errors
+            )
         )
 
-    def query_steps(
+    def query_with_errors_as_generator(
         self, commands: bytes, longest: int, longest_errors: int
     ) -> Generator["Program", None, tuple[bytes, bytes]]:
         """The same, which gives way where it has to wait until the program can be read or written (`fileno`)."""
         self._most, self._kept, self._errors = longest_errors, longest_errors + 1, b""
-        answer = yield from self._answer_steps(commands, longest)
+        answer = yield from self._answer_until_total_as_generator(commands, longest)
         # What was printed before the line that ends an answer is in the pipe by then.
         while self._read_or_write_ready(0):
-            self._refuse_long_errors()
+            self._raise_if_errors_too_long()
         errors, self._errors = self._errors, b""
         return answer, errors
 
@@ -105,8 +107,8 @@ class Program:
         """Waits until the program can be read or written, or a signal comes."""
         self._selector.select()
 
-    def _answer_steps(self, commands: bytes, longest: int) -> Generator["Program", None, bytes]:
-        self._send_commands(commands)
+    def _answer_until_total_as_generator(self, commands: bytes, longest: int) -> Generator["Program", None, bytes]:
+        self._queue_commands_and_write_what_fits(commands)
         seen = 0
         while True:
             start = self._got.find(b"\ntotal ", seen)
@@ -116,13 +118,13 @@ class Program:
             seen = max(0, start if start >= 0 else len(self._got) - len(b"\ntotal "))
             if len(self._got) > longest:
                 raise ProgramEndedError(f"{self._name} answered more than was asked")
-            self._refuse_long_errors()
+            self._raise_if_errors_too_long()
             if not self._is_watched(self._out):
-                raise ProgramEndedError(self._reason_of_end())
+                raise ProgramEndedError(self._await_end_and_describe_reason())
             yield self
             self._read_or_write_ready(0)
 
-    def _drive_steps(self, steps: Generator["Program", None, T]) -> T:
+    def _drive_generator_until_answer(self, steps: Generator["Program", None, T]) -> T:
         while True:
             try:
                 next(steps)
@@ -131,39 +133,39 @@ class Program:
                 return answer
             self.wait_until_ready()
 
-    def _refuse_long_errors(self) -> None:
+    def _raise_if_errors_too_long(self) -> None:
         if len(self._errors) > self._most:
             raise ProgramEndedError(f"{self._name} said more than was asked")
 
     def finish_and_read_errors(self, commands: bytes, longest: int) -> bytes:
         """What the program prints on standard error at these commands. They are its last, and it ends."""
-        self._finish_regularly(commands, longest)
+        self._run_to_regular_end_or_refuse(commands, longest)
         return self._errors
 
-    def record_script(self, text: bytes, longest: int) -> tuple[bytes, str]:
+    def record_script_with_first_error_line(self, text: bytes, longest: int) -> tuple[bytes, str]:
         """What the program writes of this text, which is all of its input, and its first line on standard error."""
-        self._finish_regularly(text, longest)
+        self._run_to_regular_end_or_refuse(text, longest)
         return bytes(self._got[1:]), printable_octets(self._errors.partition(b"\n")[0], _SHOWN)
 
     def run_on_input(self, given: bytes, longest: int) -> ProcessOutput:
         """All that the program writes of this, which is all of its input, and its status."""
-        status = self._run_to_end(given, longest)
+        status = self._run_to_end_and_get_status(given, longest)
         return ProcessOutput(bytes(self._got[1:]), self._errors, str(status))
 
-    def read_file_sections(self, count: int, longest: int) -> Iterator[tuple[bytes, bytes]]:
+    def read_titled_section_per_file(self, count: int, longest: int) -> Iterator[tuple[bytes, bytes]]:
         """What the program writes of so many files: of each the first word of its title, and the lines after that."""
         self._is_last = True
-        self._send_commands(b"")
+        self._queue_commands_and_write_what_fits(b"")
         for _ in range(count):
-            while (section := self._next_whole_section()) is None:
+            while (section := self._take_next_section_if_whole()) is None:
                 if len(self._got) > longest:
                     raise ProgramEndedError(f"{self._name} wrote more than was asked")
                 if not self._is_watched(self._out):
-                    raise ProgramEndedError(self._reason_of_end())
+                    raise ProgramEndedError(self._await_end_and_describe_reason())
                 self._read_or_write_ready(None)
             yield section
 
-    def _next_whole_section(self) -> tuple[bytes, bytes] | None:
+    def _take_next_section_if_whole(self) -> tuple[bytes, bytes] | None:
         """The next title, with the lines after it, once all of them are there."""
         end = self._got.find(b"\n", 1)
         if end < 0:
@@ -177,40 +179,40 @@ class Program:
         self._take_printed_up_to(len(self._got) - len(lines[-1]) - 1)
         return words[0], b"".join(bytes(line) + b"\n" for line in lines[2:-1])
 
-    def _finish_regularly(self, commands: bytes, longest: int) -> None:
+    def _run_to_regular_end_or_refuse(self, commands: bytes, longest: int) -> None:
         """The same, of a program that has to end regularly."""
-        status = self._run_to_end(commands, longest)
+        status = self._run_to_end_and_get_status(commands, longest)
         if status not in _REGULAR:
             raise ProgramEndedError((self._last_error_line() if status > 0 else "") or self._kill_and_describe_end())
 
-    def _run_to_end(self, commands: bytes, longest: int) -> int:
+    def _run_to_end_and_get_status(self, commands: bytes, longest: int) -> int:
         """Writes the last of the input, and reads what the program writes until it has ended; its status."""
         self._kept = longest + 1
         self._is_last = True
-        self._send_commands(commands)
+        self._queue_commands_and_write_what_fits(commands)
         while self._is_watched(self._out) or self._is_watched(self._err):
             self._read_or_write_ready(None)
             if max(len(self._errors), len(self._got)) > longest:
                 raise ProgramEndedError(f"{self._name} said more than was asked")
         if not self._ends_within_grace():
             raise ProgramEndedError(f"{self._name} closed its output")
-        return self._kill_group()
+        return self._kill_group_and_get_status()
 
     def fileno(self) -> int:
         """What can be read once a program that nobody queries has something to print, or has ended."""
         return self._selector.fileno()
 
-    def require_idle(self) -> None:
+    def require_alive_and_silent(self) -> None:
         """Raises ProgramEndedError where the program has ended since the last query, or prints what nobody queried."""
         self._read_or_write_ready(0)
         if not self._is_watched(self._out):
-            raise ProgramEndedError(self._reason_of_end())
+            raise ProgramEndedError(self._await_end_and_describe_reason())
         if len(self._got) > 1:
             raise ProgramEndedError(f"{self._name} answered more than was asked")
 
     def kill_and_close(self) -> None:
         """Ends the program."""
-        self._kill_group()
+        self._kill_group_and_get_status()
         self._selector.close()
         for pipe in (self._process.stdin, self._process.stdout, self._process.stderr):
             if pipe is not None:
@@ -222,10 +224,10 @@ class Program:
         del self._got[:end]
         return answer
 
-    def _send_commands(self, commands: bytes) -> None:
+    def _queue_commands_and_write_what_fits(self, commands: bytes) -> None:
         """Writes as much of the commands as the pipe takes; the rest is written while answers are read."""
         self._unsent += commands
-        self._write_unsent()
+        self._write_unsent_and_close_if_last()
         if self._unsent and not self._is_watched(self._in):
             self._selector.register(self._in, selectors.EVENT_WRITE)
 
@@ -234,15 +236,15 @@ class Program:
         ready = self._selector.select(seconds)
         for key, _ in ready:
             if key.fd == self._in:
-                self._write_unsent()
+                self._write_unsent_and_close_if_last()
             elif key.fd == self._out:
-                self._got += self._read_available(self._out)
+                self._got += self._read_octets_or_unwatch_at_end(self._out)
             elif key.fd == self._err:
-                self._errors = (self._errors + self._read_available(self._err))[-self._kept :]
+                self._errors = (self._errors + self._read_octets_or_unwatch_at_end(self._err))[-self._kept :]
         self._stop.raise_if_stopped()
         return bool(ready)
 
-    def _write_unsent(self) -> None:
+    def _write_unsent_and_close_if_last(self) -> None:
         try:
             self._unsent = self._unsent[os.write(self._in, self._unsent) :]
         except BlockingIOError:
@@ -256,7 +258,7 @@ class Program:
             if self._is_last and self._process.stdin is not None:
                 self._process.stdin.close()
 
-    def _read_available(self, descriptor: int) -> bytes:
+    def _read_octets_or_unwatch_at_end(self, descriptor: int) -> bytes:
         try:
             octets = os.read(descriptor, _READ)
         except BlockingIOError:
@@ -270,7 +272,7 @@ class Program:
     def _is_watched(self, descriptor: int) -> bool:
         return descriptor in self._selector.get_map()
 
-    def _reason_of_end(self) -> str:
+    def _await_end_and_describe_reason(self) -> str:
         """Why the program has ended: the last line that it printed, else its status."""
         until = time.monotonic() + _GRACE
         while (
@@ -290,7 +292,7 @@ class Program:
 
     def _kill_and_describe_end(self) -> str:
         """How the program ended, by its status."""
-        status = self._kill_group()
+        status = self._kill_group_and_get_status()
         if status < 0:
             return f"{self._name} was ended by {_signal_name(-status)}"
         return f"{self._name} ended with status {status}"
@@ -304,7 +306,7 @@ class Program:
         finally:
             os.close(descriptor)
 
-    def _kill_group(self) -> int:
+    def _kill_group_and_get_status(self) -> int:
         """Ends all of the program's group, and answers its status; until then no other process can have its number."""
         if self._process.returncode is None:
             with contextlib.suppress(ProcessLookupError):
@@ -312,7 +314,7 @@ class Program:
         return self._process.wait()
 
 
-def _prepare_pipes(process: "subprocess.Popen[bytes]") -> tuple[int, int, int]:
+def _set_pipes_nonblocking_and_get_filenos(process: "subprocess.Popen[bytes]") -> tuple[int, int, int]:
     pipes = (process.stdin, process.stdout, process.stderr)
     ends = [pipe.fileno() for pipe in pipes if pipe is not None]
     for end in ends:

@@ -36,7 +36,7 @@ class UnexpectedAnswerError(Exception):
     """An answer that isn't the one to the query; the text says what it has in its place."""
 
 
-def script_name(number: int) -> bytes:
+def script_name_of_number(number: int) -> bytes:
     """The name of the script with this number in a run: never a word of a command or of a report."""
     return b"s%d" % number
 
@@ -66,7 +66,7 @@ def set_and_show_commands(key: str, word: str) -> bytes:
     return set_command(key, word) + SHOW
 
 
-def refusal_name(answer: bytes) -> str | None:
+def refusal_kind_if_refused(answer: bytes) -> str | None:
     """The name of the refusal that an answer begins with: `BadValue` of `refused 4 BadValue`."""
     first = answer.split(b"\n", 1)[0].split(b" ")
     return printable_octets(first[2]) if first[0] == b"refused" and len(first) == 3 else None
@@ -75,10 +75,10 @@ def refusal_name(answer: bytes) -> str | None:
 def parse_new_rows(answer: bytes, before: bytes, names: Sequence[bytes], count: int) -> list[Row]:
     """The rows of these names in an answer, after the ones that came before and before the totals of `count` rows."""
     if not answer.startswith(before):
-        raise UnexpectedAnswerError(_describe_first_difference(answer, before))
+        raise UnexpectedAnswerError(_quote_first_differing_line(answer, before))
     lines = answer[len(before) :].split(b"\n")
     known: dict[bytes, Row] = {}
-    rows = [_row_of_name(line, name, known) for line, name in zip(lines, names)]
+    rows = [_require_row_of_name(line, name, known) for line, name in zip(lines, names)]
     last = lines[len(names)] if len(lines) > len(names) else b""
     total = _TOTAL.fullmatch(last)
     if total is None or int(total[1]) != count or lines[len(names) + 1 :] != [b""]:
@@ -86,7 +86,7 @@ def parse_new_rows(answer: bytes, before: bytes, names: Sequence[bytes], count: 
     return rows
 
 
-def parse_blocks(errors: bytes) -> dict[tuple[bytes, int], list[bytes]]:
+def parse_blocks_by_script_and_line(errors: bytes) -> dict[tuple[bytes, int], list[bytes]]:
     """The printed blocks, by the names of their scripts and their lines: what each is, and the lines below."""
     blocks: dict[tuple[bytes, int], list[bytes]] = {}
     block: list[bytes] = []
@@ -100,7 +100,7 @@ def parse_blocks(errors: bytes) -> dict[tuple[bytes, int], list[bytes]]:
     return blocks
 
 
-def parse_causes(errors: bytes) -> dict[tuple[bytes, int], Cause]:
+def parse_causes_by_script_and_line(errors: bytes) -> dict[tuple[bytes, int], Cause]:
     """What was printed as JSON, an object a line, by the names of scripts and their lines; other lines say else."""
     causes: dict[tuple[bytes, int], Cause] = {}
     for line in errors.split(b"\n"):
@@ -115,7 +115,7 @@ def parse_causes(errors: bytes) -> dict[tuple[bytes, int], Cause]:
     return causes
 
 
-def parse_step_counts(errors: bytes) -> dict[bytes, int]:
+def parse_step_counts_by_script(errors: bytes) -> dict[bytes, int]:
     """How many steps jobs took, by the names of their scripts, as a program says that counts them."""
     return {name: int(steps) for name, steps in _STEPS.findall(errors)}
 
@@ -133,7 +133,7 @@ def rows_before_total(answer: bytes) -> bytes:
     return answer[: answer.rindex(b"total ")]
 
 
-def _row_of_name(line: bytes, name: bytes, known: dict[bytes, Row]) -> Row:
+def _require_row_of_name(line: bytes, name: bytes, known: dict[bytes, Row]) -> Row:
     """The row of this name in a line. `known` has what words were read as before, since many rows are equal."""
     printed_name, _, words = line.partition(b" ")
     if words not in known:
@@ -152,7 +152,7 @@ def _parse_row(words: bytes, line: bytes) -> Row:
     return Row(_VERDICTS[found[1]], int(found[2]))
 
 
-def _describe_first_difference(answer: bytes, before: bytes) -> str:
+def _quote_first_differing_line(answer: bytes, before: bytes) -> str:
     for line, wanted in zip(answer.split(b"\n"), before.split(b"\n")):
         if line != wanted:
             return _quote_unexpected_line(line)

@@ -8,7 +8,7 @@ from pathlib import Path
 from pdsuite.faults import Fault
 from pdsuite.output.octets import printable_octets, printable_path
 from pdsuite.programs.batch_protocol import ProgramAnswer, Case
-from pdsuite.programs.locate import RECORD, locate_program
+from pdsuite.programs.locate import RECORD, locate_given_or_proved_program
 from pdsuite.programs.program import Program, ProgramEndedError
 from pdsuite.programs.unproved_batch import ProgramCases
 from pdsuite.scripts.settings import Settings, settings_as_toml
@@ -45,27 +45,27 @@ class Recorder:
         self._program = program
         self._fault = ""
 
-    def record_script(self, path: str, text: bytes, settings: Settings, word: str = TRACE) -> Recording:
+    def record_script_or_note_reason(self, path: str, text: bytes, settings: Settings, word: str = TRACE) -> Recording:
         """The recording of a script, or why there is none: the program refuses it, ends on it, or isn't there.
 
         It has a trace, or is what another option names.
         """
-        program = self._locate_program_once()
+        program = self._locate_program_or_note_fault_once()
         if program is None:
             return Recording("", self._fault)
         try:
             with Program([program, word, *_settings_words(settings)], self._stop) as started:
-                octets, reason = started.record_script(text, _LONGEST)
+                octets, reason = started.record_script_with_first_error_line(text, _LONGEST)
         except ProgramEndedError as end:
             self._note(f"pdsuite: {end}; {printable_path(Path(path))} isn't recorded")
             return Recording("", str(end))
         return Recording(octets.decode("utf-8", "surrogateescape"), reason)
 
-    def _locate_program_once(self) -> Path | None:
+    def _locate_program_or_note_fault_once(self) -> Path | None:
         """The program; that it isn't there is reported once."""
         if self._program is None and not self._fault:
             try:
-                self._program = locate_program(RECORD)
+                self._program = locate_given_or_proved_program(RECORD)
             except Fault as fault:
                 self._fault = str(fault)
                 self._note(f"pdsuite: {fault}; nothing is recorded")
@@ -88,7 +88,7 @@ def record_texts(
             part = paths[done : done + _FILES]
             try:
                 with Program([program, *words, *_settings_words(settings), *part], stop) as started:
-                    for word, octets in started.read_file_sections(len(part), _LONGEST):
+                    for word, octets in started.read_titled_section_per_file(len(part), _LONGEST):
                         done += 1
                         yield _recording_in_section(word, octets)
             except ProgramEndedError as end:

@@ -12,7 +12,7 @@ from pdsuite.programs.protocol import (
     SHOW,
     UnexpectedAnswerError,
     parse_new_rows,
-    refusal_name,
+    refusal_kind_if_refused,
     set_and_show_commands,
 )
 from pdsuite.scripts.config import Claim
@@ -41,12 +41,12 @@ class Refusal:
         return self.claim.refusal_line(self.reason)
 
 
-def refusal_lines(claims: Iterable[Claim], start: Callable[[], Program]) -> list[str]:
+def query_refusal_lines(claims: Iterable[Claim], start: Callable[[], Program]) -> list[str]:
     """The lines of the claims that the program refuses. Without claims it is still queried whether it answers."""
-    return [it.refusal_line for it in find_refusals(claims, start)]
+    return [it.refusal_line for it in query_refused_settings_retrying_once(claims, start)]
 
 
-def find_refusals(claims: Iterable[Claim], start: Callable[[], Program]) -> list[Refusal]:
+def query_refused_settings_retrying_once(claims: Iterable[Claim], start: Callable[[], Program]) -> list[Refusal]:
     """The claims that the program refuses. Without claims it is still queried whether it answers."""
     each = list(claims)
     known: _Known = {}
@@ -60,15 +60,15 @@ def find_refusals(claims: Iterable[Claim], start: Callable[[], Program]) -> list
 
 def _query_refusals(claims: list[Claim], known: _Known, start: Callable[[], Program]) -> list[Refusal]:
     with start() as program:
-        _check_report_without_scripts(program.query(SHOW, 2 * LONGEST_LINE), b"")
+        _require_report_without_scripts(program.query(SHOW, 2 * LONGEST_LINE), b"")
         for claim in claims:
             words = set_command_words(claim.key, claim.value)
             if words not in known:
-                known[words] = _query_refusal_reason(words, program)
-    return _known_refusals(claims, known)
+                known[words] = _query_refusal_of_setting(words, program)
+    return _refusals_by_known_reasons(claims, known)
 
 
-def distinct_key_values(claims: Iterable[Claim]) -> list[tuple[str, str]]:
+def distinct_key_value_pairs(claims: Iterable[Claim]) -> list[tuple[str, str]]:
     """The queries where all are made at once: each key with its value, once."""
     return list(dict.fromkeys(set_command_words(it.key, it.value) for it in claims))
 
@@ -76,32 +76,32 @@ def distinct_key_values(claims: Iterable[Claim]) -> list[tuple[str, str]]:
 def refusals_in_answer(claims: Iterable[Claim], answer: bytes) -> list[Refusal]:
     """The claims that the program refuses, by its answer to `set_and_show_commands` of all questions."""
     each = list(claims)
-    pairs = distinct_key_values(each)
+    pairs = distinct_key_value_pairs(each)
     *parts, rest = _AFTER_TOTAL.split(answer)
     # The last part is the report at the end.
     if rest or len(parts) != len(pairs) + 1:
         raise ProgramEndedError(f"pdregress answered {len(parts) - 1} of {len(pairs)} questions")
-    return _known_refusals(each, {words: _refusal_reason_in(part) for words, part in zip(pairs, parts)})
+    return _refusals_by_known_reasons(each, {words: _refusal_reason_in(part) for words, part in zip(pairs, parts)})
 
 
-def _known_refusals(claims: Iterable[Claim], known: _Known) -> list[Refusal]:
+def _refusals_by_known_reasons(claims: Iterable[Claim], known: _Known) -> list[Refusal]:
     reasons = ((claim, known[set_command_words(claim.key, claim.value)]) for claim in claims)
     return [Refusal(claim, reason) for claim, reason in reasons if reason is not None]
 
 
-def _query_refusal_reason(words: tuple[str, str], program: Program) -> str | None:
+def _query_refusal_of_setting(words: tuple[str, str], program: Program) -> str | None:
     """Why the program refuses a key with its value, if it does."""
     return _refusal_reason_in(program.query(set_and_show_commands(*words), 3 * LONGEST_LINE))
 
 
 def _refusal_reason_in(answer: bytes) -> str | None:
     """Why a key with its value is refused, by the answer to both, if it is."""
-    reason = refusal_name(answer)
-    _check_report_without_scripts(answer, answer.split(b"\n", 1)[0] + b"\n" if reason in _REFUSALS else b"")
+    reason = refusal_kind_if_refused(answer)
+    _require_report_without_scripts(answer, answer.split(b"\n", 1)[0] + b"\n" if reason in _REFUSALS else b"")
     return reason
 
 
-def _check_report_without_scripts(answer: bytes, before: bytes) -> None:
+def _require_report_without_scripts(answer: bytes, before: bytes) -> None:
     """Raises ProgramEndedError where an answer is no report without scripts, behind what may stand before it."""
     try:
         parse_new_rows(answer, before, (), 0)

@@ -4,7 +4,7 @@ from collections.abc import Mapping
 from dataclasses import dataclass
 
 from pdsuite.packetdrill.items import Call, Packet
-from pdsuite.packetdrill.reader import read_items
+from pdsuite.packetdrill.reader import parse_items_until_syntax_error
 from pdsuite.packetdrill.recorded import recorded_events_in
 
 
@@ -31,7 +31,11 @@ class TracedEvent:
 
 def traced_events_in(recording: str) -> tuple[TracedEvent, ...]:
     """The events of a recording, or none where one of them has no state."""
-    items = [(it.what, it.end) for it in read_items(recording).items if isinstance(it.what, Packet | Call)]
+    items = [
+        (it.what, it.end)
+        for it in parse_items_until_syntax_error(recording).items
+        if isinstance(it.what, Packet | Call)
+    ]
     recorded = recorded_events_in(recording)
     if len(items) != len(recorded):
         return ()

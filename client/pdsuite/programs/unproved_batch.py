@@ -18,8 +18,8 @@ from pdsuite.programs.batch_protocol import (
     ProgramAnswer,
     Case,
     batch_input,
-    parse_batch_answers,
-    prepend_program_and_words,
+    parse_batch_answers_or_faults,
+    cases_with_program_and_words,
     split_into_batches,
 )
 from pdsuite.programs.build import BuildError
@@ -45,22 +45,24 @@ def build_and_run_cases(groups: Sequence[ProgramCases], stop: Stop) -> list[list
     """The answers to the cases of each program; both programs of a tree are built as one, and trees side by side."""
     cases: dict[Path, list[Case]] = {it.tree: [] for it in groups}
     for it in groups:
-        cases[it.tree] += prepend_program_and_words(it.program, it.words, it.cases)
+        cases[it.tree] += cases_with_program_and_words(it.program, it.words, it.cases)
     with ThreadPoolExecutor(min(len(os.sched_getaffinity(0)), _MOST)) as pool:
         answered = list(
-            pool.map(lambda tree: _build_and_run_batches(tree, list(split_into_batches(cases[tree])), stop), cases)
+            pool.map(
+                lambda tree: _build_and_answer_batched_cases(tree, list(split_into_batches(cases[tree])), stop), cases
+            )
         )
     answers = {tree: iter(each) for tree, each in zip(cases, answered)}
     return [list(islice(answers[it.tree], len(it.cases))) for it in groups]
 
 
-def _build_and_run_batches(tree: Path, batches: Sequence[Sequence[Case]], stop: Stop) -> list[ProgramAnswer]:
+def _build_and_answer_batched_cases(tree: Path, batches: Sequence[Sequence[Case]], stop: Stop) -> list[ProgramAnswer]:
     """The answers of a tree's programs, which are built for them."""
     stop.raise_if_stopped()
     with tempfile.TemporaryDirectory(prefix="pdsuite-") as folder:
         tool = BatchTool(tree, [batch_input(it) for it in batches], Path(folder))
         try:
-            wait_readable(tool.fileno(), stop)
+            wait_readable_or_raise_if_stopped(tool.fileno(), stop)
         finally:
             tool.end_tool()
         tool.raise_if_build_failed()
@@ -69,10 +71,10 @@ def _build_and_run_batches(tree: Path, batches: Sequence[Sequence[Case]], stop: 
 
 def _read_batch_answers(tool: "BatchTool", number: int, count: int) -> list[ProgramAnswer]:
     output, errors, status = (tool.read_result_file(number, end) for end in ("output", "errors", "status"))
-    return parse_batch_answers(output, errors, status.decode(), count)
+    return parse_batch_answers_or_faults(output, errors, status.decode(), count)
 
 
-def wait_readable(descriptor: int, stop: Stop) -> None:
+def wait_readable_or_raise_if_stopped(descriptor: int, stop: Stop) -> None:
     """Waits until something can be read from a descriptor, or a signal comes."""
     poll = select.poll()
     for each in (descriptor, stop.fileno()):

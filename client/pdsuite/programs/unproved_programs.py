@@ -6,8 +6,8 @@ from pathlib import Path
 
 from pdsuite.output.octets import printable_path
 from pdsuite.output.screen import Screen
-from pdsuite.programs.build import BuildMode, NoKeptBuildError, build_if_needed, find_kept_build
-from pdsuite.programs.locate import BATCH_TOOL, TOP, UnprovedError, locate_program, use_programs_folder
+from pdsuite.programs.build import BuildMode, NoKeptBuildError, build_if_needed_and_get_folder, find_kept_build
+from pdsuite.programs.locate import BATCH_TOOL, TOP, UnprovedError, locate_given_or_proved_program, use_programs_folder
 from pdsuite.signals import Stop
 
 _PHASES = {
@@ -24,22 +24,22 @@ def proved_or_built_program(name: str, stop: Stop, screen: Screen) -> Path:
     Raises UnprovedError where there is neither.
     """
     try:
-        return locate_program(name)
+        return locate_given_or_proved_program(name)
     except UnprovedError:
-        if not (BATCH_TOOL.is_file() and build_and_use_programs("plain", stop, screen)):
+        if not (BATCH_TOOL.is_file() and build_and_use_programs_if_possible("plain", stop, screen)):
             raise
-    return locate_program(name)
+    return locate_given_or_proved_program(name)
 
 
-def build_and_use_programs(way: BuildMode, stop: Stop, screen: Screen) -> bool:
+def build_and_use_programs_if_possible(way: BuildMode, stop: Stop, screen: Screen) -> bool:
     """Has the programs of this call be a build of the tree as it stands; whether there can be one.
 
     A line says first that they aren't proved, and on a terminal another one how far the build is.
     """
     folder = find_kept_build(TOP, way)
-    screen.print_note(f"pdsuite: {unproved_notice(folder is not None)}")
+    screen.print_note_on_stderr(f"pdsuite: {unproved_notice(folder is not None)}")
     try:
-        use_programs_folder(folder or build_if_needed(TOP, way, stop, build_progress_printer(screen)))
+        use_programs_folder(folder or build_if_needed_and_get_folder(TOP, way, stop, build_progress_printer(screen)))
     except NoKeptBuildError:
         return False
     finally:

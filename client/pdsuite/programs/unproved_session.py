@@ -11,8 +11,8 @@ from pdsuite.programs.batch_protocol import (
     Case,
     answer_from_status,
     batch_input,
-    prepend_program_and_words,
-    take_length_prefixed,
+    cases_with_program_and_words,
+    take_whole_length_prefixed_parts,
 )
 from pdsuite.programs.build import BuildError
 from pdsuite.programs.locate import RECORD
@@ -34,7 +34,7 @@ class UnprovedSession:
     def __init__(self, tree: Path, stop: Stop) -> None:
         self._stop = stop
         self._folder = tempfile.TemporaryDirectory(prefix="pdsuite-")
-        self._pipes = _make_pipes(Path(self._folder.name))
+        self._pipes = _make_named_pipe_pairs(Path(self._folder.name))
         inputs = [f"{requests}\n{answers}\n".encode() for requests, answers in self._pipes]
         self._tool = BatchTool(tree, inputs, Path(self._folder.name), "--seconds", str(_SECONDS))
         self._requests = self._answers = -1
@@ -44,26 +44,26 @@ class UnprovedSession:
         return self
 
     def __exit__(self, *error: object) -> None:
-        self._close_pipes()
+        self._close_pipe_descriptors()
         self._tool.end_tool()
         self._folder.cleanup()
 
-    def wait_until_built(self) -> None:
+    def wait_silently_until_built(self) -> None:
         """Waits until the programs are built."""
-        self._run_until_programs_end([Case((RECORD,), b"")])
+        self._get_answers_until_programs_end([Case((RECORD,), b"")])
 
     def run_cases(self, cases: ProgramCases) -> list[ProgramAnswer]:
         """The answers to the cases of a build of this tree."""
-        left = list(prepend_program_and_words(cases.program, cases.words, cases.cases))
+        left = list(cases_with_program_and_words(cases.program, cases.words, cases.cases))
         answers: list[ProgramAnswer] = []
         while left:
-            answered = self._run_until_programs_end(left)
+            answered = self._get_answers_until_programs_end(left)
             answers += answered
             left = left[len(answered) :]
             if left:
                 answers.append(ProgramAnswer(b"", b"", _ENDED))
                 del left[0]
-                self._close_pipes()
+                self._close_pipe_descriptors()
                 self._open_next_pipes()
         return answers
 
@@ -76,11 +76,11 @@ class UnprovedSession:
         self._requests = os.open(requests, os.O_RDWR | os.O_NONBLOCK | os.O_CLOEXEC)
         self._answers = os.open(answers, os.O_RDONLY | os.O_NONBLOCK | os.O_CLOEXEC)
 
-    def _close_pipes(self) -> None:
+    def _close_pipe_descriptors(self) -> None:
         for each in (self._requests, self._answers):
             os.close(each)
 
-    def _run_until_programs_end(self, cases: Sequence[Case]) -> list[ProgramAnswer]:
+    def _get_answers_until_programs_end(self, cases: Sequence[Case]) -> list[ProgramAnswer]:
         """The answers to the cases, up to one on which the programs end."""
         unsent = memoryview(batch_input(cases))
         got = bytearray()
@@ -101,14 +101,14 @@ class UnprovedSession:
                 if not octets:
                     break
                 got += octets
-                parts += take_length_prefixed(got)
+                parts += take_whole_length_prefixed_parts(got)
             elif self._tool.fileno() in ready:
                 self._tool.raise_if_build_failed()
                 raise BuildError("unproved: the programs have ended")
         return list(_answers_from_parts(parts))
 
 
-def _make_pipes(folder: Path) -> list[tuple[Path, Path]]:
+def _make_named_pipe_pairs(folder: Path) -> list[tuple[Path, Path]]:
     """The named pipes in a folder: one for the cases, and one for the answers."""
     pipes = [(folder / f"asks.{number}", folder / f"answers.{number}") for number in range(_ENDS)]
     for pair in pipes:

@@ -42,7 +42,7 @@ class Row:
         return f"{verdict} {self.word}" if self.word else verdict
 
     @property
-    def whole_text(self) -> str:
+    def whole_text_without_name(self) -> str:
         """The row as the program says it, without the script's name."""
         if self.line is None:
             return str(self)

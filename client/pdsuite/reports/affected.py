@@ -12,8 +12,11 @@ def affected_lines(affected: Affected) -> list[str]:
     runs = [it for it in affected.rows if it.title]
     rows = [it for it in affected.rows if not it.title]
     found = [it for it in affected.paragraphs or () if it.page]
-    lines = [*_row_lines(rows), *(f"{_file_and_line(it.file, it.line)}: {printable_text(it.title)}" for it in runs)]
-    lines += [line for it in affected.paragraphs or () for line in _paragraph_lines(it)]
+    lines = [
+        *_one_report_line_per_row_file(rows),
+        *(f"{_join_file_and_line(it.file, it.line)}: {printable_text(it.title)}" for it in runs),
+    ]
+    lines += [line for it in affected.paragraphs or () for line in _lines_on_affected_paragraph(it)]
     if affected.paragraphs is None:
         lines.append("paragraphs of pages: unknown, since the sources of the sender before are")
     if affected.unheard:
@@ -22,11 +25,11 @@ def affected_lines(affected: Affected) -> list[str]:
     return [f"affected in the tree: {counts}", *(f"  {it}" for it in lines)]
 
 
-def _file_and_line(file: str, line: int) -> str:
+def _join_file_and_line(file: str, line: int) -> str:
     return f"{printable_text(file)}:{line}"
 
 
-def _row_lines(rows: Sequence[AffectedRow]) -> Iterator[str]:
+def _one_report_line_per_row_file(rows: Sequence[AffectedRow]) -> Iterator[str]:
     """The rows of each file: their lines."""
     for file, mine in groupby(rows, key=lambda it: it.file):
         lines = [it.line for it in mine]
@@ -41,9 +44,9 @@ def _collapse_ranges(numbers: Sequence[int]) -> Iterator[str]:
         yield str(span[0]) if len(span) == 1 else f"{span[0]}-{span[-1]}"
 
 
-def _paragraph_lines(it: Paragraph) -> Iterator[str]:
+def _lines_on_affected_paragraph(it: Paragraph) -> Iterator[str]:
     if it.page:
-        yield f"{_file_and_line(it.page, it.line)}: {it.heading}, '{it.name}': {', '.join(it.sections)}"
+        yield f"{_join_file_and_line(it.page, it.line)}: {it.heading}, '{it.name}': {', '.join(it.sections)}"
         yield from (f"  {rule}" for rule in it.rules)
     else:
         why = "its code changed, and paragraphs are about definitions" if it.name else "no paragraph cites its section"

@@ -8,7 +8,7 @@ from functools import cache
 from pdsuite.output.octets import printable_path
 from pdsuite.output.styled_text import StyledText, unstyled_text
 from pdsuite.programs.verdict import Verdict
-from pdsuite.reports.outcome_text import lines_below_row
+from pdsuite.reports.outcome_text import explanation_or_line_below_row
 from pdsuite.run.outcomes import UNPROVED, CountedAs, ScriptOutcome, OutcomeTotals
 from pdsuite.scripts.settings import Settings
 from pdsuite.scripts.shards import Shard
@@ -25,14 +25,14 @@ class JsonFormatter:
 
     shard: Shard | None = None
 
-    def opening(self, count: int) -> StyledText:
+    def opening_before_scripts(self, count: int) -> StyledText:
         return unstyled_text(f'{{"version": {VERSION}, "scripts": [')
 
-    def script_entry(self, number: int, outcome: ScriptOutcome) -> StyledText:
+    def streamed_script_entry_or_none(self, number: int, outcome: ScriptOutcome) -> StyledText:
         begin = "\n" if number == 1 else ",\n"
         return unstyled_text(begin + script_json(outcome, printable_path(outcome.path), outcome.explanation))
 
-    def summary(self, totals: OutcomeTotals, seconds: float) -> StyledText:
+    def totals_after_scripts(self, totals: OutcomeTotals, seconds: float) -> StyledText:
         counts = {it.value: totals.counts[it] for it in Verdict}
         counts |= {it.value: totals.counts[it] for it in CountedAs if totals.counts[it]}
         if totals.warnings:
@@ -47,7 +47,7 @@ def script_json(outcome: ScriptOutcome, path: str, explanation: Mapping[str, obj
     """A script on one line, under this path, which is safe to print; beside its lines the explanation."""
     row = outcome.row
     if row.verdict is not _PASS or outcome.warnings or outcome.expected is not None:
-        script = _script_by_keys(outcome, path)
+        script = _script_json_object(outcome, path)
         return _encoded(script if explanation is None else {**script, "explanation": explanation})
     # Most scripts pass and have nothing else to report: their line is put together by hand, in a fifth of the time.
     quoted = _encoded(path) if '"' in path or "\\" in path else f'"{path}"'
@@ -60,7 +60,7 @@ def _settings_json(settings: Settings) -> str:
     return _encoded(dict(settings))
 
 
-def _script_by_keys(outcome: ScriptOutcome, path: str) -> dict[str, object]:
+def _script_json_object(outcome: ScriptOutcome, path: str) -> dict[str, object]:
     row = outcome.row
     script: dict[str, object] = {"path": path, "verdict": row.verdict.value}
     match row.verdict:
@@ -81,7 +81,7 @@ def _script_by_keys(outcome: ScriptOutcome, path: str) -> dict[str, object]:
         script.update(warnings=list(outcome.warnings), strict=outcome.is_strict)
     if outcome.line_diff is not None:
         # Only who requests it pays for what reads scripts.
-        from pdsuite.reports.diff_text import diff_by_keys
+        from pdsuite.reports.diff_text import line_diff_json_list_or_fault
 
-        script["met"] = diff_by_keys(outcome.line_diff)
-    return {**script, "below": lines_below_row(outcome), "settings": dict(outcome.settings)}
+        script["met"] = line_diff_json_list_or_fault(outcome.line_diff)
+    return {**script, "below": explanation_or_line_below_row(outcome), "settings": dict(outcome.settings)}

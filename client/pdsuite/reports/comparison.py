@@ -12,8 +12,8 @@ from pdsuite.compare.quantities import Quantity
 from pdsuite.output.octets import printable_path, printable_text
 from pdsuite.output.styled_text import StyledText, unstyled_text
 from pdsuite.reports.affected import affected_lines
-from pdsuite.reports.outcome_text import lines_below_row, meaning_suffix
-from pdsuite.reports.quantities import quantities_by_keys, quantity_lines
+from pdsuite.reports.outcome_text import explanation_or_line_below_row, meaning_suffix
+from pdsuite.reports.quantities import changed_quantities_json_object, quantity_lines_of_all_scripts
 from pdsuite.run.outcomes import UNPROVED, ScriptOutcome
 
 _STYLES = {ComparisonKind.TURNED: "bold red", ComparisonKind.OTHERWISE: "yellow"}
@@ -26,21 +26,21 @@ VERSION = 2
 def compared_script_lines(it: ComparedScript) -> list[str]:
     """The lines below a script: both blocks where it turned, and where the recordings part."""
     lines = (
-        [*_outcome_lines("before", it.before), *_outcome_lines("after", it.after)]
+        [*_outcome_lines_of_one_side("before", it.before), *_outcome_lines_of_one_side("after", it.after)]
         if it.kind is ComparisonKind.TURNED
         else []
     )
     if it.divergence is not None:
         return [*lines, *_divergence_lines(it.divergence)]
     if it.kind is ComparisonKind.OTHERWISE:
-        lines += [f"{side}: {_recorded_or_why_not(why)}" for side, why in zip(_SIDES, it.unrecorded)]
+        lines += [f"{side}: {_whether_recorded_in_words(why)}" for side, why in zip(_SIDES, it.unrecorded)]
     return lines
 
 
-def _outcome_lines(side: str, outcome: ScriptOutcome) -> Iterator[str]:
-    line = "" if outcome.line is None else f"line {outcome.line}: "
+def _outcome_lines_of_one_side(side: str, outcome: ScriptOutcome) -> Iterator[str]:
+    line = "" if outcome.explained_or_row_line_number is None else f"line {outcome.explained_or_row_line_number}: "
     yield f"{side}: {line}{outcome.row}{meaning_suffix(outcome)}"
-    yield from (f"  {it}" for it in lines_below_row(outcome))
+    yield from (f"  {it}" for it in explanation_or_line_below_row(outcome))
 
 
 def _divergence_lines(it: Divergence) -> Iterator[str]:
@@ -58,7 +58,7 @@ def _event_or_nothing_more(it: PlayedEvent | None) -> str:
     return _ENDS if it is None else printable_text(str(it))
 
 
-def _recorded_or_why_not(why: str) -> str:
+def _whether_recorded_in_words(why: str) -> str:
     return f"not recorded: {why}" if why else "recorded"
 
 
@@ -76,7 +76,7 @@ class ComparisonReport:
     sort: Quantity = Quantity.TIME
     is_every: bool = False
 
-    def groups_by_kind(self) -> Iterator[tuple[ComparisonKind, Group]]:
+    def groups_by_kind_and_difference(self) -> Iterator[tuple[ComparisonKind, Group]]:
         """The groups of the scripts that turned, and then of those that are played otherwise."""
         for kind in _STYLES:
             for group in group_by_first_difference([it for it in self.compared if it.kind is kind]):
@@ -92,7 +92,7 @@ def compared_script_entry(it: ComparedScript) -> StyledText:
 def plain_comparison(report: ComparisonReport) -> StyledText:
     """Scripts that turned, those that are played otherwise, totals by folder, and what is affected in the tree."""
     text = StyledText()
-    for kind, group in report.groups_by_kind():
+    for kind, group in report.groups_by_kind_and_difference():
         whole = len(group.scripts) if report.is_every else 1
         if len(group.scripts) > 1:
             text.append(f"{len(group.scripts)} scripts differ first in {group.title}:\n", "bold")
@@ -101,7 +101,9 @@ def plain_comparison(report: ComparisonReport) -> StyledText:
         for it in group.scripts[whole:]:
             text.append(f"{printable_path(it.path)}: ").append(kind, _STYLES[kind])
             text.append(f": {it.comment}\n" if it.comment else "\n")
-    text.append("".join(f"{line}\n" for line in quantity_lines(report.compared, report.sort, report.is_every)))
+    text.append(
+        "".join(f"{line}\n" for line in quantity_lines_of_all_scripts(report.compared, report.sort, report.is_every))
+    )
     *folders, total = counts_by_folder_and_total(report.compared)
     for count in folders:
         text.append(f"{printable_path(count.name)}: {count.counts_in_words}\n")
@@ -117,9 +119,9 @@ def comparison_json(report: ComparisonReport, names: tuple[str, str]) -> StyledT
     whole: dict[str, object] = {
         "version": VERSION,
         **dict(zip(_SIDES, names)),
-        "scripts": [_compared_script_by_keys(it) for it in report.compared if it.differs],
-        "groups": [_group_by_keys(kind, it) for kind, it in report.groups_by_kind()],
-        "quantities": quantities_by_keys(report.compared, report.sort),
+        "scripts": [_compared_script_json_object(it) for it in report.compared if it.differs],
+        "groups": [_group_json_object(kind, it) for kind, it in report.groups_by_kind_and_difference()],
+        "quantities": changed_quantities_json_object(report.compared, report.sort),
         "folders": {printable_path(it.name): _counts_by_kind(it) for it in folders},
         "total": _counts_by_kind(total),
         "seconds": round(report.seconds, 2),
@@ -135,26 +137,26 @@ def _counts_by_kind(count: KindCounts) -> dict[str, int]:
     return {"scripts": sum(count.counts.values()), **{it.value: count.counts[it] for it in ComparisonKind}}
 
 
-def _compared_script_by_keys(it: ComparedScript) -> dict[str, object]:
+def _compared_script_json_object(it: ComparedScript) -> dict[str, object]:
     script: dict[str, object] = {"path": printable_path(it.path), "kind": it.kind.value}
     for side, outcome in zip(_SIDES, (it.before, it.after)):
         script[side] = {
             "row": str(outcome.row),
             "line": outcome.row.line,
             "what": outcome.why,
-            "below": lines_below_row(outcome),
+            "below": explanation_or_line_below_row(outcome),
         }
     if it.divergence is not None:
         script["parting"] = {
-            "before": _event_by_keys(it.divergence.before, it.divergence.state_before),
-            "after": _event_by_keys(it.divergence.after, it.divergence.state_after),
+            "before": _event_json_object(it.divergence.before, it.divergence.state_before),
+            "after": _event_json_object(it.divergence.after, it.divergence.state_after),
         }
     elif it.kind is ComparisonKind.OTHERWISE:
         script["unrecorded"] = dict(zip(_SIDES, it.unrecorded))
     return script
 
 
-def _group_by_keys(kind: ComparisonKind, it: Group) -> dict[str, object]:
+def _group_json_object(kind: ComparisonKind, it: Group) -> dict[str, object]:
     return {
         "kind": kind.value,
         "field": it.field,
@@ -163,7 +165,7 @@ def _group_by_keys(kind: ComparisonKind, it: Group) -> dict[str, object]:
     }
 
 
-def _event_by_keys(it: PlayedEvent | None, state: str) -> dict[str, object]:
+def _event_json_object(it: PlayedEvent | None, state: str) -> dict[str, object]:
     if it is None:
         return {"event": None, "state": state}
     return {"event": printable_text(it.line), "moment": it.moment, "state": state}

@@ -8,14 +8,14 @@ from pdsuite.output.octets import printable_path
 from pdsuite.output.styled_text import StyledText, unstyled_text
 from pdsuite.reports.affected import affected_lines
 from pdsuite.reports.comparison import ComparisonReport, compared_script_lines
-from pdsuite.reports.quantities import quantity_lines
+from pdsuite.reports.quantities import quantity_lines_of_all_scripts
 from pdsuite.run.outcomes import UNPROVED
 
 # Longer than any row of backquotes that a script may have is no fence; so the text stands indented.
 _INDENT = "    "
 
 
-def as_markdown(report: ComparisonReport, names: tuple[str, str]) -> StyledText:
+def whole_comparison_as_markdown(report: ComparisonReport, names: tuple[str, str]) -> StyledText:
     """A summary, a part for each group, and what else is reported, folded."""
     return unstyled_text("".join(f"{line}\n" for line in _markdown_lines(report, names)))
 
@@ -27,9 +27,9 @@ def _markdown_lines(report: ComparisonReport, names: tuple[str, str]) -> Iterato
     yield f"- before: {_as_code(names[0])}"
     yield f"- after: {_as_code(names[1])}"
     yield f"- {total.counts_in_words}{f' ({UNPROVED})' if report.is_unproved else ''}"
-    for kind, group in report.groups_by_kind():
+    for kind, group in report.groups_by_kind_and_difference():
         yield from _group_lines(kind, group, report.is_every)
-    more = list(quantity_lines(report.compared, report.sort, report.is_every))
+    more = list(quantity_lines_of_all_scripts(report.compared, report.sort, report.is_every))
     more += [] if report.affected is None else affected_lines(report.affected)
     if more:
         yield from _details_block("Quantities and what is affected" if report.affected else "Quantities", more)
@@ -44,11 +44,16 @@ def _group_lines(kind: ComparisonKind, group: Group, is_every: bool) -> Iterator
     for it in group.scripts[:whole]:
         yield from _script_lines(it)
     for it in group.scripts[whole:]:
-        yield f"- {_as_code(printable_path(it.path))}{f': {_escape_markup(it.comment)}' if it.comment else ''}"
+        yield f"- {_path_and_comment(it)}"
+
+
+def _path_and_comment(it: ComparedScript) -> str:
+    comment = f": {_escape_markup_but_backquotes(it.comment)}" if it.comment else ""
+    return f"{_as_code(printable_path(it.path))}{comment}"
 
 
 def _script_lines(it: ComparedScript) -> Iterator[str]:
-    yield f"{_as_code(printable_path(it.path))}{f': {_escape_markup(it.comment)}' if it.comment else ''}"
+    yield _path_and_comment(it)
     yield ""
     yield from (f"{_INDENT}{line}" for line in compared_script_lines(it))
     yield ""
@@ -72,6 +77,6 @@ def _as_code(text: str) -> str:
     return f"{fence}{pad}{text}{pad}{fence}"
 
 
-def _escape_markup(text: str) -> str:
+def _escape_markup_but_backquotes(text: str) -> str:
     """A comment, of which no character is markup but its backquotes."""
     return "".join(f"\\{it}" if it in "\\<>*_[]#|" else it for it in text)

@@ -48,14 +48,14 @@ def _mark_line(packet: PacketColumns) -> str:
     ).rstrip()
 
 
-def diff_by_keys(differences: LineDiff) -> list[dict[str, object]] | str:
+def line_diff_json_list_or_fault(differences: LineDiff) -> list[dict[str, object]] | str:
     """The same by keys; or why it isn't known."""
     if differences.fault:
         return differences.fault
-    return [_event_by_keys(it) for it in differences.lines]
+    return [_diff_line_json_object(it) for it in differences.lines]
 
 
-def _event_by_keys(it: DiffLine) -> dict[str, object]:
+def _diff_line_json_object(it: DiffLine) -> dict[str, object]:
     keys: dict[str, object] = {"line": it.line, "differs": it.differs}
     if it.line is not None:
         keys["event"] = _packet_without_columns(it.script)

@@ -4,7 +4,7 @@ import textwrap
 from collections.abc import Callable
 from dataclasses import dataclass
 
-from pdsuite.output.fitting import fit_to_columns, usable_columns
+from pdsuite.output.fitting import wrap_prose_in_styled_text, columns_without_autowrap
 from pdsuite.output.styled_text import StyledText
 from pdsuite.reports.formatter import Formatter
 from pdsuite.run.outcomes import ScriptOutcome, OutcomeTotals
@@ -17,16 +17,20 @@ class FittingFormatter:
     form: Formatter
     width: Callable[[], int | None]
 
-    def opening(self, count: int) -> StyledText:
-        return self.form.opening(count)
+    def opening_before_scripts(self, count: int) -> StyledText:
+        return self.form.opening_before_scripts(count)
 
-    def script_entry(self, number: int, outcome: ScriptOutcome) -> StyledText | None:
-        entry, width = self.form.script_entry(number, outcome), self.width()
-        return entry if entry is None or width is None else fit_to_columns(entry, usable_columns(width))
+    def streamed_script_entry_or_none(self, number: int, outcome: ScriptOutcome) -> StyledText | None:
+        entry, width = self.form.streamed_script_entry_or_none(number, outcome), self.width()
+        return (
+            entry
+            if entry is None or width is None
+            else wrap_prose_in_styled_text(entry, columns_without_autowrap(width))
+        )
 
-    def summary(self, totals: OutcomeTotals, seconds: float) -> StyledText:
-        foot, width = self.form.summary(totals, seconds), self.width()
-        if width is None or len(foot.plain) <= usable_columns(width):
+    def totals_after_scripts(self, totals: OutcomeTotals, seconds: float) -> StyledText:
+        foot, width = self.form.totals_after_scripts(totals, seconds), self.width()
+        if width is None or len(foot.plain) <= columns_without_autowrap(width):
             return foot
-        lines = textwrap.wrap(foot.plain, usable_columns(width))
+        lines = textwrap.wrap(foot.plain, columns_without_autowrap(width))
         return StyledText([("".join(f"{line}\n" for line in lines), foot.pieces[0][1])])

@@ -10,18 +10,18 @@ from pdsuite.run.outcomes import ScriptOutcome, OutcomeTotals
 class Formatter(Protocol):
     """A report in parts: what stands first, what stands for each script in the order of paths, what stands last."""
 
-    def opening(self, count: int) -> StyledText:
+    def opening_before_scripts(self, count: int) -> StyledText:
         """What stands before so many scripts."""
 
-    def script_entry(self, number: int, outcome: ScriptOutcome) -> StyledText | None:
+    def streamed_script_entry_or_none(self, number: int, outcome: ScriptOutcome) -> StyledText | None:
         """What stands for a script, if anything does; the first has the number 1."""
 
-    def summary(self, totals: OutcomeTotals, seconds: float) -> StyledText:
+    def totals_after_scripts(self, totals: OutcomeTotals, seconds: float) -> StyledText:
         """What stands at the end."""
 
 
 def format_report(form: Formatter, outcomes: Sequence[ScriptOutcome], totals: OutcomeTotals, seconds: float) -> str:
     """A report of outcomes that are all there."""
-    entries = (form.script_entry(number, it) for number, it in enumerate(outcomes, 1))
-    parts = [form.opening(len(outcomes)), *entries, form.summary(totals, seconds)]
+    entries = (form.streamed_script_entry_or_none(number, it) for number, it in enumerate(outcomes, 1))
+    parts = [form.opening_before_scripts(len(outcomes)), *entries, form.totals_after_scripts(totals, seconds)]
     return "".join(it.plain for it in parts if it is not None)

@@ -11,9 +11,9 @@ from pdsuite.output.styled_text import StyledText, unstyled_text
 from pdsuite.programs.verdict import Verdict
 from pdsuite.reports.outcome_text import (
     heading_line,
-    lines_below_row,
+    explanation_or_line_below_row,
     reason_for_row,
-    row_text,
+    row_text_with_expected_row,
     warning_lines_of,
     warning_texts,
 )
@@ -41,39 +41,42 @@ class GithubFormatter:
         self._counts: Counter[str] = Counter()
         self._roots: dict[str, str] = {}
 
-    def opening(self, count: int) -> StyledText:
+    def opening_before_scripts(self, count: int) -> StyledText:
         return StyledText()
 
-    def script_entry(self, number: int, outcome: ScriptOutcome) -> StyledText | None:
+    def streamed_script_entry_or_none(self, number: int, outcome: ScriptOutcome) -> StyledText | None:
         if outcome.row.verdict is Verdict.NOT_RUN:
             return None
         lines: list[str] = []
         if outcome.counted_as is not Verdict.PASS:
-            text_lines = [heading_line(outcome), *(f"  {it}" for it in lines_below_row(outcome))]
+            text_lines = [heading_line(outcome), *(f"  {it}" for it in explanation_or_line_below_row(outcome))]
             lines.append(
-                self._annotation_or_row(
+                self._annotation_or_row_past_limit(
                     "notice" if outcome.is_known_failure else "error", outcome, _annotation_title(outcome), text_lines
                 )
             )
         level = "error" if outcome.is_strict else "warning"
         each = zip(warning_texts(outcome), warning_lines_of(outcome))
-        lines += [self._annotation_or_row(level, outcome, title, [line]) for title, line in each]
+        lines += [self._annotation_or_row_past_limit(level, outcome, title, [line]) for title, line in each]
         return unstyled_text("".join(lines)) if lines else None
 
-    def summary(self, totals: OutcomeTotals, seconds: float) -> StyledText:
+    def totals_after_scripts(self, totals: OutcomeTotals, seconds: float) -> StyledText:
         left = {level: count - _MOST for level, count in self._counts.items() if count > _MOST}
         more = [f"and {count:,} more {level}{'s' if count > 1 else ''}\n" for level, count in sorted(left.items())]
         return unstyled_text("".join(more) + f"{totals} in {seconds:.2f} s{totals.unproved_mark}\n")
 
-    def _annotation_or_row(self, level: str, outcome: ScriptOutcome, title: str, text_lines: Sequence[str]) -> str:
+    def _annotation_or_row_past_limit(
+        self, level: str, outcome: ScriptOutcome, title: str, text_lines: Sequence[str]
+    ) -> str:
         """The command that puts lines beside a script, while GitHub shows it; else the first of them alone."""
         self._counts[level] += 1
         if self._counts[level] > _MOST:
             return f"- {text_lines[0].replace(_COMMAND, _NO_COMMAND)}\n"
-        where = f"file={_escape_property(printable_path(self._path_from_repository_root(outcome.path)))}"
-        if outcome.line is not None:
-            where += f",line={outcome.line}"
-        return f"::{level} {where},title={_escape_property(title)}::{'%0A'.join(map(_escape_message, text_lines))}\n"
+        where = f"file={_escape_percent_colon_comma(printable_path(self._path_from_repository_root(outcome.path)))}"
+        if outcome.explained_or_row_line_number is not None:
+            where += f",line={outcome.explained_or_row_line_number}"
+        message = "%0A".join(map(_escape_percent_signs, text_lines))
+        return f"::{level} {where},title={_escape_percent_colon_comma(title)}::{message}\n"
 
     def _path_from_repository_root(self, path: str) -> str:
         """A path from the root of the repository that it lies in, if it lies in one."""
@@ -90,7 +93,7 @@ def step_summary(outcomes: Sequence[ScriptOutcome], totals: OutcomeTotals) -> st
     verdicts = ", ".join(f"{count:,} {it.value}" for it, count in totals.counts.items() if count)
     warnings = f"; warnings: {totals.warnings:,}" if totals.warnings else ""
     parts = [f"### pdsuite: {totals.script_count:,} scripts: {verdicts}{warnings}{totals.unproved_mark}\n\n"]
-    rows = [line for it in outcomes for line in _summary_rows(it)]
+    rows = [line for it in outcomes for line in _summary_rows_of_script(it)]
     if rows:
         parts.append("| script | line | row | reason |\n|---|---|---|---|\n")
     room = _LONGEST - sum(len(it.encode()) for it in parts)
@@ -110,13 +113,16 @@ def _annotation_title(outcome: ScriptOutcome) -> str:
     return "passes, though it is expected not to" if outcome.row.verdict is Verdict.PASS else str(outcome.row)
 
 
-def _summary_rows(outcome: ScriptOutcome) -> Iterator[str]:
+def _summary_rows_of_script(outcome: ScriptOutcome) -> Iterator[str]:
     path, row = printable_path(outcome.path), outcome.row
     if outcome.counted_as is Verdict.ERROR:
         yield _table_row(path, "", row.verdict.value, row.word)
     elif outcome.counted_as not in (Verdict.PASS, Verdict.NOT_RUN, CountedAs.KNOWN):
         yield _table_row(
-            path, "" if outcome.line is None else str(outcome.line), row_text(outcome), reason_for_row(outcome)
+            path,
+            "" if outcome.explained_or_row_line_number is None else str(outcome.explained_or_row_line_number),
+            row_text_with_expected_row(outcome),
+            reason_for_row(outcome),
         )
     for warning in warning_texts(outcome):
         yield _table_row(path, "", str(row), warning)
@@ -141,9 +147,9 @@ def _repository_root(folder: str) -> str:
     return workspace if workspace and here.is_relative_to(workspace) else ""
 
 
-def _escape_message(text: str) -> str:
+def _escape_percent_signs(text: str) -> str:
     return text.replace("%", "%25")
 
 
-def _escape_property(text: str) -> str:
-    return _escape_message(text).replace(":", "%3A").replace(",", "%2C")
+def _escape_percent_colon_comma(text: str) -> str:
+    return _escape_percent_signs(text).replace(":", "%3A").replace(",", "%2C")

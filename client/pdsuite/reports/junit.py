@@ -7,7 +7,7 @@ from datetime import UTC, datetime, timedelta
 
 from pdsuite.output.octets import printable_path
 from pdsuite.programs.verdict import Verdict
-from pdsuite.reports.outcome_text import heading_line, lines_below_row, one_line_summary, warning_lines_of
+from pdsuite.reports.outcome_text import heading_line, explanation_or_line_below_row, one_line_summary, warning_lines_of
 from pdsuite.run.outcomes import UNPROVED, ScriptOutcome
 
 # The line of a script that none is named of.
@@ -35,7 +35,7 @@ class _Suite:
     folder: str
     cases: Sequence[tuple[ScriptOutcome, Sequence[_Result]]]
 
-    def count_results(self, kind: str) -> int:
+    def count_results_of_kind(self, kind: str) -> int:
         """How many results of a kind its cases have."""
         return sum(it.kind == kind for _, results in self.cases for it in results)
 
@@ -51,24 +51,24 @@ def junit_xml(outcomes: Sequence[ScriptOutcome], seconds: float, is_unproved: bo
     folders: dict[str, list[tuple[ScriptOutcome, Sequence[_Result]]]] = {}
     for outcome in outcomes:
         folders.setdefault(printable_path(os.path.dirname(outcome.path)), []).append(
-            (outcome, _results_of_case(outcome))
+            (outcome, _failures_errors_or_skips_of_case(outcome))
         )
     suites = [_Suite(*it) for it in folders.items()]
     body = "".join(_suite_element(it, begin, seconds * len(it.cases) / len(outcomes), is_unproved) for it in suites)
-    counts = {f"{kind}s": sum(it.count_results(kind) for it in suites) for kind in (_FAILURE, _ERROR)}
-    skipped = sum(it.count_results(_SKIPPED) for it in suites)
+    counts = {f"{kind}s": sum(it.count_results_of_kind(kind) for it in suites) for kind in (_FAILURE, _ERROR)}
+    skipped = sum(it.count_results_of_kind(_SKIPPED) for it in suites)
     whole: Attributes = {
         "name": "pdsuite",
         "tests": len(outcomes),
         **counts,
         "skipped": skipped,
-        "time": _round_to_milliseconds(seconds),
+        "time": _float_rounded_to_milliseconds(seconds),
     }
     return (_HEAD + _xml_element("testsuites", whole, body)).encode()
 
 
 def _suite_element(suite: _Suite, begin: str, seconds: float, is_unproved: bool) -> str:
-    counts = {f"{kind}s": suite.count_results(kind) for kind in (_ERROR, _FAILURE)}
+    counts = {f"{kind}s": suite.count_results_of_kind(kind) for kind in (_ERROR, _FAILURE)}
     named: Attributes = {"name": suite.folder or os.curdir, "timestamp": begin, "tests": len(suite.cases), **counts}
     folder = _escape_attribute(suite.folder)
     cases = "".join(_case_element(folder, *it) for it in suite.cases)
@@ -76,7 +76,7 @@ def _suite_element(suite: _Suite, begin: str, seconds: float, is_unproved: bool)
     more = _xml_element("properties", {}, mark) if is_unproved else ""
     return _xml_element(
         "testsuite",
-        {**named, "skipped": suite.count_results(_SKIPPED), "time": _round_to_milliseconds(seconds)},
+        {**named, "skipped": suite.count_results_of_kind(_SKIPPED), "time": _float_rounded_to_milliseconds(seconds)},
         cases + more,
     )
 
@@ -85,17 +85,18 @@ def _case_element(folder: str, outcome: ScriptOutcome, results: Iterable[_Result
     """The case of a script in a folder, whose name is quoted already."""
     path = _escape_attribute(printable_path(outcome.path))
     below = "".join(
-        _xml_element(it.kind, {"message": it.message, "type": it.type}, _escape_text(it.text)) for it in results
+        _xml_element(it.kind, {"message": it.message, "type": it.type}, _escape_markup_and_carriage_return(it.text))
+        for it in results
     )
     if outcome.counted_as is Verdict.PASS and outcome.lets_run_pass and (lines := warning_lines_of(outcome)):
-        below += _xml_element("system-err", {}, _escape_text("\n".join(lines)))
+        below += _xml_element("system-err", {}, _escape_markup_and_carriage_return("\n".join(lines)))
     # Where a case's script is, as GitLab and CircleCI read it.
-    place = f'file="{path}" line="{outcome.line or _FIRST}"'
+    place = f'file="{path}" line="{outcome.explained_or_row_line_number or _FIRST}"'
     begin = f'<testcase name="{path}" classname="{folder}" time="0.0" {place}'
     return f"{begin}>{below}</testcase>" if below else f"{begin}/>"
 
 
-def _results_of_case(outcome: ScriptOutcome) -> Sequence[_Result]:
+def _failures_errors_or_skips_of_case(outcome: ScriptOutcome) -> Sequence[_Result]:
     """Why a script's case doesn't count as passed, if it doesn't."""
     if outcome.counted_as is Verdict.PASS:
         return () if outcome.lets_run_pass else [_Result(_FAILURE, it, "warning") for it in warning_lines_of(outcome)]
@@ -104,7 +105,11 @@ def _results_of_case(outcome: ScriptOutcome) -> Sequence[_Result]:
     if outcome.row.verdict is Verdict.NOT_RUN:
         return (_Result(_ERROR, text_line, outcome.counted_as.value, text_line),)
     text = "\n".join(
-        [heading_line(outcome), *(f"  {it}" for it in lines_below_row(outcome)), *warning_lines_of(outcome)]
+        [
+            heading_line(outcome),
+            *(f"  {it}" for it in explanation_or_line_below_row(outcome)),
+            *warning_lines_of(outcome),
+        ]
     )
     if outcome.is_known_failure and outcome.expected is not None:
         return (_Result(_SKIPPED, outcome.expected.reason, outcome.counted_as.value, text),)
@@ -118,13 +123,13 @@ def _xml_element(tag: str, attributes: Attributes, inside: str = "") -> str:
     return f"<{tag}{attribute_text}>{inside}</{tag}>" if inside else f"<{tag}{attribute_text}/>"
 
 
-def _escape_text(text: str) -> str:
+def _escape_markup_and_carriage_return(text: str) -> str:
     return text.replace("&", "&amp;").replace("<", "&lt;").replace(">", "&gt;").replace("\r", "&#13;")
 
 
 def _escape_attribute(text: str) -> str:
-    return _escape_text(text).replace('"', "&quot;").replace("\t", "&#9;").replace("\n", "&#10;")
+    return _escape_markup_and_carriage_return(text).replace('"', "&quot;").replace("\t", "&#9;").replace("\n", "&#10;")
 
 
-def _round_to_milliseconds(seconds: float) -> float:
+def _float_rounded_to_milliseconds(seconds: float) -> float:
     return round(seconds, 3)

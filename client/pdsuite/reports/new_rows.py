@@ -19,16 +19,16 @@ class NewRowsFormatter:
     before: SavedRows  # by absolute paths
     absolute: Callable[[str], str]
 
-    def opening(self, count: int) -> StyledText:
-        return self.form.opening(count)
+    def opening_before_scripts(self, count: int) -> StyledText:
+        return self.form.opening_before_scripts(count)
 
-    def script_entry(self, number: int, outcome: ScriptOutcome) -> StyledText | None:
+    def streamed_script_entry_or_none(self, number: int, outcome: ScriptOutcome) -> StyledText | None:
         saved = self.before.get(self.absolute(outcome.path))
         if saved is None:
-            return self.form.script_entry(number, outcome)
+            return self.form.streamed_script_entry_or_none(number, outcome)
         if saved.row == outcome.row or outcome.row.verdict is Verdict.NOT_RUN:
             return None
-        return self.turned.script_entry(number, outcome)
+        return self.turned.streamed_script_entry_or_none(number, outcome)
 
-    def summary(self, totals: OutcomeTotals, seconds: float) -> StyledText:
-        return self.form.summary(totals, seconds)
+    def totals_after_scripts(self, totals: OutcomeTotals, seconds: float) -> StyledText:
+        return self.form.totals_after_scripts(totals, seconds)

@@ -14,16 +14,16 @@ _END = "at the end of the text"
 def path_and_line(outcome: ScriptOutcome) -> str:
     """The path, with the line that the row is about."""
     path = printable_path(outcome.path)
-    return path if outcome.line is None else f"{path}:{outcome.line}"
+    return path if outcome.explained_or_row_line_number is None else f"{path}:{outcome.explained_or_row_line_number}"
 
 
 def meaning_suffix(outcome: ScriptOutcome) -> str:
     """What comes after the row: what it means, where that is explained."""
-    why = _syntax_lack(outcome) if outcome.row.verdict is Verdict.SYNTAX else outcome.why
+    why = _expected_syntax_or_reason(outcome) if outcome.row.verdict is Verdict.SYNTAX else outcome.why
     return f": {why}" if why else ""
 
 
-def row_text(outcome: ScriptOutcome) -> str:
+def row_text_with_expected_row(outcome: ScriptOutcome) -> str:
     """The row of an outcome, with the one that is expected of it, where one is."""
     if outcome.expected is None or not (outcome.is_known_failure or outcome.has_unexpected_row):
         return str(outcome.row)
@@ -35,7 +35,7 @@ def row_text(outcome: ScriptOutcome) -> str:
 
 def heading_line(outcome: ScriptOutcome) -> str:
     """The line of an outcome: its place, its row and what that means."""
-    return f"{path_and_line(outcome)}: {row_text(outcome)}{meaning_suffix(outcome)}"
+    return f"{path_and_line(outcome)}: {row_text_with_expected_row(outcome)}{meaning_suffix(outcome)}"
 
 
 def reason_for_row(outcome: ScriptOutcome) -> str:
@@ -44,12 +44,12 @@ def reason_for_row(outcome: ScriptOutcome) -> str:
         found = (it.removeprefix(_REASON) for it in outcome.block_lines if it.startswith(_REASON))
         return next(found, outcome.why)
     if outcome.row.verdict is Verdict.SYNTAX:
-        return _syntax_lack(outcome)
+        return _expected_syntax_or_reason(outcome)
     rule = next((it.removeprefix(_RULE) for it in outcome.block_lines[:1] if it.startswith(_RULE)), "")
     return f"{outcome.why}: {rule}" if rule else outcome.why
 
 
-def _syntax_lack(outcome: ScriptOutcome) -> str:
+def _expected_syntax_or_reason(outcome: ScriptOutcome) -> str:
     """What a text that is no script lacks where it breaks off, as far as that is explained."""
     below = outcome.block_lines[1:]  # the first is the line of the text
     expected = next((it for it in below if it.startswith(_EXPECTED)), "")
@@ -61,7 +61,7 @@ def _syntax_lack(outcome: ScriptOutcome) -> str:
 def one_line_summary(outcome: ScriptOutcome) -> str:
     """An outcome in one line: its place, its row and the reason."""
     why = reason_for_row(outcome)
-    return f"{path_and_line(outcome)}: {row_text(outcome)}" + (f": {why}" if why else "")
+    return f"{path_and_line(outcome)}: {row_text_with_expected_row(outcome)}" + (f": {why}" if why else "")
 
 
 def warning_texts(outcome: ScriptOutcome) -> list[str]:
@@ -75,7 +75,7 @@ def warning_lines_of(outcome: ScriptOutcome) -> list[str]:
     return [f"{path_and_line(outcome)}: {it}" for it in warning_texts(outcome)]
 
 
-def lines_below_row(outcome: ScriptOutcome) -> list[str]:
+def explanation_or_line_below_row(outcome: ScriptOutcome) -> list[str]:
     """The lines below an outcome's row: its explanation, else the line of the script that it names."""
     if outcome.block_lines:
         return list(outcome.block_lines)

@@ -5,7 +5,13 @@ from dataclasses import dataclass
 
 from pdsuite.output.styled_text import StyledText, unstyled_text
 from pdsuite.programs.verdict import Verdict
-from pdsuite.reports.outcome_text import lines_below_row, meaning_suffix, path_and_line, row_text, warning_lines_of
+from pdsuite.reports.outcome_text import (
+    explanation_or_line_below_row,
+    meaning_suffix,
+    path_and_line,
+    row_text_with_expected_row,
+    warning_lines_of,
+)
 from pdsuite.run.outcomes import CountedAs, ScriptOutcome, OutcomeTotals
 
 _STYLES: dict[Verdict | CountedAs, str] = {
@@ -31,21 +37,25 @@ class PlainFormatter:
 
     every: bool
 
-    def opening(self, count: int) -> StyledText:
+    def opening_before_scripts(self, count: int) -> StyledText:
         return StyledText()
 
-    def script_entry(self, number: int, outcome: ScriptOutcome) -> StyledText | None:
+    def streamed_script_entry_or_none(self, number: int, outcome: ScriptOutcome) -> StyledText | None:
         if not self.every and outcome.counted_as in _UNSHOWN:
             return self.styled_warnings(outcome) if outcome.warnings else None
         if outcome.warnings or outcome.is_known_failure:
             return self.row_and_warnings(outcome)
-        line = self.row_alone(outcome).append(meaning_suffix(outcome))
-        below = "".join(f"  {it}\n" for it in [*lines_below_row(outcome), *_met_lines(outcome)])
+        line = self.styled_path_and_row(outcome).append(meaning_suffix(outcome))
+        below = "".join(
+            f"  {it}\n" for it in [*explanation_or_line_below_row(outcome), *_line_diff_lines_if_requested(outcome)]
+        )
         return line.append("\n").append(below, "dim")
 
-    def row_alone(self, outcome: ScriptOutcome) -> StyledText:
+    def styled_path_and_row(self, outcome: ScriptOutcome) -> StyledText:
         """A script's row alone."""
-        return unstyled_text(f"{path_and_line(outcome)}: ").append(row_text(outcome), _STYLES[outcome.counted_as])
+        return unstyled_text(f"{path_and_line(outcome)}: ").append(
+            row_text_with_expected_row(outcome), _STYLES[outcome.counted_as]
+        )
 
     def styled_warnings(self, outcome: ScriptOutcome) -> StyledText:
         """What is warned of, a line each."""
@@ -54,9 +64,9 @@ class PlainFormatter:
 
     def row_and_warnings(self, outcome: ScriptOutcome) -> StyledText:
         """A script's row alone, with what is warned of."""
-        return self.row_alone(outcome).append("\n").append_text(self.styled_warnings(outcome))
+        return self.styled_path_and_row(outcome).append("\n").append_text(self.styled_warnings(outcome))
 
-    def summary(self, totals: OutcomeTotals, seconds: float) -> StyledText:
+    def totals_after_scripts(self, totals: OutcomeTotals, seconds: float) -> StyledText:
         return (
             StyledText()
             .append(str(totals), totals_style(totals))
@@ -66,10 +76,10 @@ class PlainFormatter:
 
 def totals_style(totals: OutcomeTotals) -> str:
     """The style of the totals."""
-    return "green" if totals.exit_status() == 0 else "bold red"
+    return "green" if totals.pass_fail_or_error_exit_status() == 0 else "bold red"
 
 
-def _met_lines(outcome: ScriptOutcome) -> list[str]:
+def _line_diff_lines_if_requested(outcome: ScriptOutcome) -> list[str]:
     """What each line was met by, where that is requested."""
     if outcome.line_diff is None:
         return []

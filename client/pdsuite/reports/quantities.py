@@ -3,7 +3,13 @@
 from collections.abc import Iterator, Sequence
 
 from pdsuite.compare.comparison import ComparedScript
-from pdsuite.compare.quantities import Quantities, Quantity, QuantityChange, sorted_quantity_changes, total_quantities
+from pdsuite.compare.quantities import (
+    Quantities,
+    Quantity,
+    QuantityChange,
+    sorted_quantity_changes,
+    summed_quantities_before_and_after,
+)
 from pdsuite.output.octets import printable_path
 from pdsuite.packetdrill.items import SECOND
 
@@ -17,47 +23,52 @@ _NAMES = {
 }
 
 
-def quantity_lines(compared: Sequence[ComparedScript], sort: Quantity, is_every: bool) -> Iterator[str]:
+def quantity_lines_of_all_scripts(compared: Sequence[ComparedScript], sort: Quantity, is_every: bool) -> Iterator[str]:
     """A line for all scripts, and one for each whose quantities changed, the largest change first."""
     changes = sorted_quantity_changes(compared, sort)
     if not changes:
         return
-    yield f"quantities of all scripts: {_quantity_line(total_quantities(compared), list(Quantity))}"
+    summed = summed_quantities_before_and_after(compared)
+    yield f"quantities of all scripts: {_quantities_before_to_after(summed, list(Quantity))}"
     for it in changes if is_every else changes[:_MOST]:
         changed = [each for each in Quantity if it.absolute_change(each)]
-        yield f"  {printable_path(it.path)}: {_quantity_line(it, changed)}"
+        yield f"  {printable_path(it.path)}: {_quantities_before_to_after(it, changed)}"
     if not is_every and len(changes) > _MOST:
         yield f"  {len(changes) - _MOST} more (--every)"
 
 
-def _quantity_line(it: QuantityChange, quantities: Sequence[Quantity]) -> str:
+def _quantities_before_to_after(it: QuantityChange, quantities: Sequence[Quantity]) -> str:
     before, after = it.before.quantities_by_name(), it.after.quantities_by_name()
     return ", ".join(
-        f"{_NAMES[each]} {_format_quantity(each, before[each])} to {_format_quantity(each, after[each])}"
+        f"{_NAMES[each]} {_format_quantity_without_unit(each, before[each])}"
+        f" to {_format_quantity_without_unit(each, after[each])}"
         for each in quantities
     )
 
 
-def _format_quantity(quantity: Quantity, value: int) -> str:
+def _format_quantity_without_unit(quantity: Quantity, value: int) -> str:
     return f"{value / SECOND:.6f}" if quantity is Quantity.TIME else f"{value:,}"
 
 
-def quantities_by_keys(compared: Sequence[ComparedScript], sort: Quantity) -> dict[str, object]:
+def changed_quantities_json_object(compared: Sequence[ComparedScript], sort: Quantity) -> dict[str, object]:
     """The same by keys: of all scripts, and of those whose quantities changed."""
     scripts: list[dict[str, object]] = [
         {
             "path": printable_path(it.path),
-            "before": _quantities_by_name(it.before),
-            "after": _quantities_by_name(it.after),
+            "before": _quantities_json_object(it.before),
+            "after": _quantities_json_object(it.after),
         }
         for it in sorted_quantity_changes(compared, sort)
     ]
-    return {"total": _change_by_keys(total_quantities(compared)), "scripts": scripts}
+    return {
+        "total": _quantities_before_after_json_object(summed_quantities_before_and_after(compared)),
+        "scripts": scripts,
+    }
 
 
-def _change_by_keys(it: QuantityChange) -> dict[str, object]:
-    return {"before": _quantities_by_name(it.before), "after": _quantities_by_name(it.after)}
+def _quantities_before_after_json_object(it: QuantityChange) -> dict[str, object]:
+    return {"before": _quantities_json_object(it.before), "after": _quantities_json_object(it.after)}
 
 
-def _quantities_by_name(it: Quantities) -> dict[str, object]:
+def _quantities_json_object(it: Quantities) -> dict[str, object]:
     return {"segments": it.segments, "again": it.again, "expiries": it.expiries, "time_us": it.time}

@@ -8,7 +8,7 @@ from pdsuite.output.screen import Screen
 from pdsuite.output.styled_text import StyledText
 from pdsuite.programs.verdict import Row, Verdict
 from pdsuite.reports.formatter import Formatter
-from pdsuite.run.batches import SuiteScript, make_outcome
+from pdsuite.run.batches import SuiteScript, make_outcome_with_row_line
 from pdsuite.run.outcomes import ScriptOutcome, OutcomeTotals
 
 
@@ -27,48 +27,48 @@ class Report:
 
     def show_opening(self) -> None:
         """Shows what stands before all scripts."""
-        self._screen.show(self._form.opening(len(self._scripts)))
+        self._screen.show(self._form.opening_before_scripts(len(self._scripts)))
         self._screen.show_progress(0, len(self._scripts))
 
     def show_outcomes_in_order(self, outcomes: Iterable[tuple[SuiteScript, ScriptOutcome]]) -> None:
         """Shows outcomes, as soon as all before them were shown."""
         for script, outcome in outcomes:
             self._waiting[script.index] = outcome
-        self._show_outcomes(list(self._take_ready()))
+        self._show_and_keep_outcomes(list(self._take_ready_outcomes_in_order()))
         done = len(self.outcomes) + len(self._waiting)
         self._screen.show_progress(done, len(self._scripts))
 
-    def unshown_outcomes(self) -> list[ScriptOutcome]:
+    def unshown_or_not_run_outcomes(self) -> list[ScriptOutcome]:
         """What wasn't shown: outcomes that still wait, and scripts that weren't run."""
         return [self._waiting.get(it.index, _not_run_outcome(it)) for it in self._scripts[len(self.outcomes) :]]
 
     def show_rest_and_totals(self, seconds: float) -> OutcomeTotals:
         """Shows what is left, and the totals."""
         self._screen.clear_live_lines()
-        self._show_outcomes(self.unshown_outcomes())
+        self._show_and_keep_outcomes(self.unshown_or_not_run_outcomes())
         totals = self.totals_of(self.outcomes)
-        self._screen.show(self._form.summary(totals, seconds))
+        self._screen.show(self._form.totals_after_scripts(totals, seconds))
         return totals
 
     def totals_of(self, outcomes: Iterable[ScriptOutcome]) -> OutcomeTotals:
         """The totals of outcomes of this report."""
         return replace(OutcomeTotals.of_outcomes(outcomes), is_unproved=self.is_unproved)
 
-    def _take_ready(self) -> Iterator[ScriptOutcome]:
+    def _take_ready_outcomes_in_order(self) -> Iterator[ScriptOutcome]:
         """The outcomes that wait for none before them."""
         index = len(self.outcomes)
         while (outcome := self._waiting.pop(index, None)) is not None:
             yield outcome
             index += 1
 
-    def _show_outcomes(self, outcomes: Sequence[ScriptOutcome]) -> None:
+    def _show_and_keep_outcomes(self, outcomes: Sequence[ScriptOutcome]) -> None:
         text = StyledText()
         for number, outcome in enumerate(outcomes, len(self.outcomes) + 1):
-            if (entry := self._form.script_entry(number, outcome)) is not None:
+            if (entry := self._form.streamed_script_entry_or_none(number, outcome)) is not None:
                 text.append_text(entry)
         self.outcomes.extend(outcomes)
         self._screen.show(text)
 
 
 def _not_run_outcome(script: SuiteScript) -> ScriptOutcome:
-    return make_outcome(script, Row(Verdict.NOT_RUN))
+    return make_outcome_with_row_line(script, Row(Verdict.NOT_RUN))

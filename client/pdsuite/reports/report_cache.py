@@ -12,7 +12,7 @@ from itertools import islice
 from pathlib import Path
 
 from pdsuite.faults import Fault, error_reason
-from pdsuite.output.octets import absolute_path_function, printable_path
+from pdsuite.output.octets import make_absolute_printable_path_function, printable_path
 from pdsuite.programs.verdict import Verdict
 from pdsuite.reports.as_json import script_json
 from pdsuite.reports.saved_reports import SavedReport, join_reports, parse_reports
@@ -54,42 +54,42 @@ class LastReport:
         self._folder = cache_folder()
         self._file = self._folder / _cache_file_name(self.of)
 
-    def load(self) -> SavedReport | None:
+    def load_if_kept(self) -> SavedReport | None:
         """What is kept, if anything is."""
-        octets = self._kept_octets()
-        return None if octets is None else _parse_report(self._file, octets)
+        octets = self._read_file_if_of_these_paths()
+        return None if octets is None else _parse_cached_report_or_fault(self._file, octets)
 
-    def save_run(self, outcomes: Sequence[ScriptOutcome], is_part: bool) -> None:
+    def save_run_keeping_rows_of_unrun(self, outcomes: Sequence[ScriptOutcome], is_part: bool) -> None:
         """Keeps the rows of a run. What was known of scripts that it had no row of stays, if they are there still."""
-        absolute = absolute_path_function()
+        absolute = make_absolute_printable_path_function()
         with _folder_lock(self._folder):
             if is_part or any(it.row.verdict is _NOT_RUN for it in outcomes):
-                lines = self._merge_lines({absolute(it.path): it for it in outcomes}, is_part)
+                lines = self._merge_run_into_kept_lines({absolute(it.path): it for it in outcomes}, is_part)
             else:
                 lines = (script_json(it, absolute(it.path)) for it in outcomes)
-            self._write_report(lines)
+            self._replace_report_file_with_lines(lines)
             _remove_oldest_reports(self._folder)
 
-    def _merge_lines(self, outcomes: Mapping[str, ScriptOutcome], is_part: bool) -> Iterator[str]:
-        lines = self._kept_lines()
+    def _merge_run_into_kept_lines(self, outcomes: Mapping[str, ScriptOutcome], is_part: bool) -> Iterator[str]:
+        lines = self._kept_lines_by_path_if_intact()
         for path, it in outcomes.items():
             if it.row.verdict is not _NOT_RUN:
                 lines[path] = script_json(it, path)
         return (line for path, line in lines.items() if is_part or path in outcomes)
 
-    def _kept_lines(self) -> dict[str, str]:
+    def _kept_lines_by_path_if_intact(self) -> dict[str, str]:
         """The lines that are kept, by the paths of their scripts; none where the file has been damaged."""
         try:
-            octets = self._kept_octets()
+            octets = self._read_file_if_of_these_paths()
             if octets is None:
                 return {}
-            paths = _parse_report(self._file, octets).rows
+            paths = _parse_cached_report_or_fault(self._file, octets).rows
             lines = octets.decode().split("\n")[1:-2]
         except (Fault, ValueError):
             return {}
         return {path: line.removesuffix(",") for path, line in zip(paths, lines)} if len(paths) == len(lines) else {}
 
-    def _kept_octets(self) -> bytes | None:
+    def _read_file_if_of_these_paths(self) -> bytes | None:
         """The file, if it is there and of these paths."""
         try:
             octets = self._file.read_bytes()
@@ -99,7 +99,7 @@ class LastReport:
             raise Fault(f"{printable_path(self._file)}: {error_reason(error)}") from error
         return octets if _paths_in_head(octets.split(b"\n", 1)[0]) == self.of else None
 
-    def _write_report(self, lines: Iterator[str]) -> None:
+    def _replace_report_file_with_lines(self, lines: Iterator[str]) -> None:
         beside = self._folder / _NEW
         with beside.open("w", encoding="utf-8") as file:
             file.write(f'{{"of": {json.dumps(self.of, ensure_ascii=False)}, "scripts": [')
@@ -119,11 +119,11 @@ def newest_report_covering(paths: Iterable[str]) -> SavedReport | None:
             of = _paths_in_head(opened.readline())
             if of and all(any(it == top or it.startswith(f"{top.rstrip('/')}/") for top in of) for it in each):
                 opened.seek(0)
-                return _parse_report(file, opened.read())
+                return _parse_cached_report_or_fault(file, opened.read())
     return None
 
 
-def _parse_report(file: Path, octets: bytes) -> SavedReport:
+def _parse_cached_report_or_fault(file: Path, octets: bytes) -> SavedReport:
     return join_reports(printable_path(file), parse_reports(printable_path(file), octets))
 
 

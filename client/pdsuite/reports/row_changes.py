@@ -47,7 +47,7 @@ class RowChange:
         return False
 
 
-def row_changes(before: SavedRows, now: SavedRows) -> list[RowChange]:
+def row_changes_sorted_by_kind(before: SavedRows, now: SavedRows) -> list[RowChange]:
     """The scripts that turned, by how they did and then in the order of paths."""
     return sorted(_find_row_changes(before, now), key=lambda it: (_ORDER[it.kind], it.path.encode()))
 

@@ -9,7 +9,7 @@ from pathlib import Path
 from pdsuite.faults import Fault, error_reason
 from pdsuite.output.octets import printable_path, printable_text
 from pdsuite.programs.verdict import Row, Verdict
-from pdsuite.scripts.shards import Shard, parse_shard
+from pdsuite.scripts.shards import Shard, parse_shard_if_valid
 
 _BLANKS = re.compile(r"[ \t\r\n]*")
 _REPORTS = "*.json"
@@ -58,14 +58,14 @@ def read_reports_as_one(paths: Sequence[Path]) -> SavedReport:
         it
         for path in paths
         for file in _report_files(path)
-        for it in parse_reports(printable_path(file), _read_octets(file))
+        for it in parse_reports(printable_path(file), _read_report_file_or_fault(file))
     ]
     return join_reports(", ".join(map(printable_path, paths)), reports)
 
 
 def join_reports(place: str, reports: Sequence[SavedReport]) -> SavedReport:
     """Reports as one: each script stands in one of them."""
-    shards = _collect_shards(reports)
+    shards = _require_distinct_shards_of_one_run(reports)
     rows: dict[str, SavedRow] = {}
     places: dict[str, str] = {}
     for report in reports:
@@ -76,7 +76,7 @@ def join_reports(place: str, reports: Sequence[SavedReport]) -> SavedReport:
     return SavedReport(place, rows, shards)
 
 
-def _collect_shards(reports: Sequence[SavedReport]) -> frozenset[Shard]:
+def _require_distinct_shards_of_one_run(reports: Sequence[SavedReport]) -> frozenset[Shard]:
     known: dict[Shard, str] = {}
     for report in reports:
         if _shard_counts(report) != _shard_counts(reports[0]):
@@ -109,7 +109,7 @@ def _report_files(path: Path) -> list[Path]:
     raise Fault(f"{printable_path(path)}: holds no file {_REPORTS}")
 
 
-def _read_octets(path: Path) -> bytes:
+def _read_report_file_or_fault(path: Path) -> bytes:
     try:
         return path.read_bytes()
     except (OSError, ValueError) as error:
@@ -146,29 +146,29 @@ def _report_from_value(place: str, value: object) -> SavedReport:
     scripts = value.get("scripts") if isinstance(value, dict) else None
     if not isinstance(value, dict) or not isinstance(scripts, list):
         raise Fault(f"{place}: no report of pdsuite run --json: it has no list of scripts")
-    return SavedReport(place, _rows_by_path(place, scripts), _parse_shard_field(place, value))
+    return SavedReport(place, _parse_rows_by_unique_path(place, scripts), _parse_shard_field(place, value))
 
 
 def _parse_shard_field(place: str, report: Mapping[str, object]) -> frozenset[Shard]:
     if "shard" not in report:
         return frozenset()
-    shard = parse_shard(str(report["shard"]))
+    shard = parse_shard_if_valid(str(report["shard"]))
     if shard is None:
         raise Fault(f"{place}: no report of pdsuite run --json: its shard is no K/N")
     return frozenset((shard,))
 
 
-def _rows_by_path(place: str, scripts: Iterable[object]) -> dict[str, SavedRow]:
+def _parse_rows_by_unique_path(place: str, scripts: Iterable[object]) -> dict[str, SavedRow]:
     rows: dict[str, SavedRow] = {}
     for number, script in enumerate(scripts, 1):
-        path, row = _parse_path(script), _parse_row(script)
+        path, row = _find_printable_path_field(script), _row_of_entry_if_well_formed(script)
         if path is None or row is None:
             raise Fault(
                 f"{place}: no report of pdsuite run --json: script {number:,} has no path and row that it writes"
             )
         if path in rows:
             raise Fault(f"{path}: stands twice in {place}")
-        rows[path] = SavedRow(row, _has_strict_warnings(script), _known_flag(script))
+        rows[path] = SavedRow(row, _has_strict_warnings(script), _find_expected_known_flag(script))
     return rows
 
 
@@ -179,21 +179,21 @@ def _has_strict_warnings(script: object) -> bool:
     return False
 
 
-def _known_flag(script: object) -> bool | None:
+def _find_expected_known_flag(script: object) -> bool | None:
     match script:
         case {"expected": {"known": bool(is_known)}}:
             return is_known
     return None
 
 
-def _parse_path(script: object) -> str | None:
+def _find_printable_path_field(script: object) -> str | None:
     match script:
         case {"path": str(path)} if path and path.isprintable():
             return path
     return None
 
 
-def _parse_row(script: object) -> Row | None:
+def _row_of_entry_if_well_formed(script: object) -> Row | None:
     match script:
         case {"verdict": Verdict.PASS.value, "events": int(number)} if number >= 0:
             return Row(Verdict.PASS, int(number))

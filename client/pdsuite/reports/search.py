@@ -3,7 +3,7 @@
 from collections.abc import Iterator, Mapping, Sequence
 from itertools import zip_longest
 
-from pdsuite.compare.divergence import PlayedEvent, played_events
+from pdsuite.compare.divergence import PlayedEvent, parse_played_events
 from pdsuite.output.octets import printable_text
 from pdsuite.output.styled_text import StyledText
 from pdsuite.programs.verdict import Row
@@ -17,7 +17,7 @@ _ENDS = "nothing more"
 _SETTINGS = "settings"
 
 
-def find_text(
+def render_find_settings_and_recordings(
     find: Find, what: str, settings: Sequence[Settings], other: str | None, row: Row | None, explanation: Sequence[str]
 ) -> StyledText:
     """A find: its recording beside the other sender's, if there is one, each with its settings, and why it fails.
@@ -25,8 +25,12 @@ def find_text(
     The row is that of its script as it is saved.
     """
     text = StyledText().append(f"{what}\n", "bold red")
-    text.append("".join(f"  {line}\n" for line in _settings_lines(settings)))
-    pairs = _recording_lines(find.recording) if other is None else _recordings_side_by_side(find.recording, other)
+    text.append("".join(f"  {line}\n" for line in _settings_lines_by_side_if_different(settings)))
+    pairs = (
+        _event_and_state_lines_of_recording(find.recording)
+        if other is None
+        else _recording_lines_merged_where_equal(find.recording, other)
+    )
     text.append("".join(f"  {printable_text(line)}\n" for line in pairs))
     if row is not None:
         line = "" if row.line is None else f"line {row.line}: "
@@ -36,7 +40,7 @@ def find_text(
     return text
 
 
-def offer_text(offer: Sequence[str]) -> StyledText:
+def render_offer_as_suite_script(offer: Sequence[str]) -> StyledText:
     """The name and the first lines with which a script may come into the suite, if there are any."""
     text = StyledText()
     if offer:
@@ -46,7 +50,7 @@ def offer_text(offer: Sequence[str]) -> StyledText:
     return text
 
 
-def _settings_lines(settings: Sequence[Settings]) -> Iterator[str]:
+def _settings_lines_by_side_if_different(settings: Sequence[Settings]) -> Iterator[str]:
     """The settings, or where they aren't the same on both sides those of each."""
     texts = [settings_as_toml(it).splitlines() or ["no settings"] for it in settings]
     if all(it == texts[0] for it in texts):
@@ -56,36 +60,36 @@ def _settings_lines(settings: Sequence[Settings]) -> Iterator[str]:
             yield f"{side}{', '.join(lines)}"
 
 
-def _recording_lines(recording: str) -> Iterator[str]:
-    for it in played_events(recording):
+def _event_and_state_lines_of_recording(recording: str) -> Iterator[str]:
+    for it in parse_played_events(recording):
         yield str(it)
         yield f"    {it.state}"
 
 
-def _recordings_side_by_side(before: str, after: str) -> Iterator[str]:
+def _recording_lines_merged_where_equal(before: str, after: str) -> Iterator[str]:
     """Both recordings event by event: one line where they agree, else one for each."""
-    for one, other in zip_longest(played_events(before), played_events(after)):
+    for one, other in zip_longest(parse_played_events(before), parse_played_events(after)):
         if one is not None and other is not None and str(one) == str(other):
             yield str(one)
             yield f"    {one.state}"
             if one.state != other.state:
                 yield f"    after: {other.state}"
         else:
-            yield from _side_lines("before: ", one)
-            yield from _side_lines("after:  ", other)
+            yield from _event_and_state_lines_or_end("before: ", one)
+            yield from _event_and_state_lines_or_end("after:  ", other)
 
 
-def _side_lines(name: str, it: PlayedEvent | None) -> Iterator[str]:
+def _event_and_state_lines_or_end(name: str, it: PlayedEvent | None) -> Iterator[str]:
     yield f"{name}{_ENDS if it is None else it}"
     if it is not None:
         yield f"    {it.state}"
 
 
-def search_totals(searched: SearchResult, seed: int, is_unproved: bool) -> StyledText:
+def render_coverage_and_search_totals(searched: SearchResult, seed: int, is_unproved: bool) -> StyledText:
     """The last lines: how many of the inputs met what, and how many there were."""
     reached = searched.coverage
     text = StyledText()
-    for name, counts in _named_counts(reached):
+    for name, counts in _named_state_option_setting_counts(reached):
         if searched.find is None or name == _SETTINGS:
             text.append(f"{name}: {' '.join(f'{it} {count}' for it, count in sorted(counts.items())) or 'none'}\n")
     shares = ", ".join(f"{name} {reached.counts[name]}" for name in SHARES)
@@ -96,7 +100,7 @@ def search_totals(searched: SearchResult, seed: int, is_unproved: bool) -> Style
     return text.append(f"{'total' if searched.find is None else 'found after'} {tried}{cut}, seed {seed}{mark}\n")
 
 
-def _named_counts(reached: Coverage) -> Iterator[tuple[str, Mapping[str, int]]]:
+def _named_state_option_setting_counts(reached: Coverage) -> Iterator[tuple[str, Mapping[str, int]]]:
     yield "states", reached.states
     yield "options", reached.options
     yield _SETTINGS, reached.settings

@@ -4,7 +4,7 @@
 from pdsuite.output.octets import printable_path
 from pdsuite.output.styled_text import StyledText, unstyled_text
 from pdsuite.programs.verdict import Verdict
-from pdsuite.reports.outcome_text import heading_line, lines_below_row, warning_lines_of
+from pdsuite.reports.outcome_text import heading_line, explanation_or_line_below_row, warning_lines_of
 from pdsuite.run.outcomes import ScriptOutcome, OutcomeTotals
 
 # Begins a directive, and so stands in no name.
@@ -14,17 +14,17 @@ _DIRECTIVE = "#"
 class TapFormatter:
     """`ok` for each script that passes, and `not ok` for every other; one that is known not to is still to be done."""
 
-    def opening(self, count: int) -> StyledText:
+    def opening_before_scripts(self, count: int) -> StyledText:
         return unstyled_text(f"TAP version 13\n1..{count}\n")
 
-    def script_entry(self, number: int, outcome: ScriptOutcome) -> StyledText:
+    def streamed_script_entry_or_none(self, number: int, outcome: ScriptOutcome) -> StyledText:
         name = printable_path(outcome.path, also=_DIRECTIVE)
         if outcome.counted_as is Verdict.PASS:
             warning_lines = warning_lines_of(outcome)
         else:
             warning_lines = [
                 heading_line(outcome),
-                *(f"  {it}" for it in lines_below_row(outcome)),
+                *(f"  {it}" for it in explanation_or_line_below_row(outcome)),
                 *warning_lines_of(outcome),
             ]
         is_ok = outcome.lets_run_pass and not outcome.is_known_failure
@@ -32,5 +32,5 @@ class TapFormatter:
         lines = [*(f"# {it}" for it in warning_lines), f"{'ok' if is_ok else 'not ok'} {number} {name}{todo}"]
         return unstyled_text("".join(f"{line}\n" for line in lines))
 
-    def summary(self, totals: OutcomeTotals, seconds: float) -> StyledText:
+    def totals_after_scripts(self, totals: OutcomeTotals, seconds: float) -> StyledText:
         return unstyled_text(f"# {totals} in {seconds:.2f} s{totals.unproved_mark}\n")

@@ -5,7 +5,7 @@ into pieces; a `Mapper` has them settled, by the processors of this machine (`lo
 or `rt try` (`unproved_run`). What comes is a stream of `Step`: a `SettledPiece` with its outcomes, or a note that a
 program ended. `ScriptOutcome` has a script's row and what explains it, `OutcomeTotals` the counts.
 
-    SuiteScript .. --group_into_batches--> Batch --Mapper--> Step, Step, ..  --> reports
+    SuiteScript .. --batch_scripts_by_equal_settings--> Batch --Mapper--> Step, Step, ..  --> reports
                                          |
     a batch:  piece by piece --> settled
                  | the program ends: Restart

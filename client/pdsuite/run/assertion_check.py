@@ -25,18 +25,18 @@ class AssertionCheck:
         self._recorder = Recorder(stop, note)
         self._asserting: dict[int, tuple[ScriptOutcome, ScriptText]] = {}
 
-    def keep_asserting_scripts(self, step: SettledPiece) -> None:
+    def store_scripts_with_assertions(self, step: SettledPiece) -> None:
         """Keeps the scripts of a piece that have assertions."""
         texts = {index: it for index, it in step.texts.items() if it.octets.find(_MARK) >= 0}
         if texts:
             asserting = [it for it in step.outcomes if it[0].index in texts]
             self._asserting.update((script.index, (outcome, texts[script.index])) for script, outcome in asserting)
 
-    def report_lines(self) -> Iterator[str]:
+    def failed_assertion_lines_and_counts(self) -> Iterator[str]:
         """A line for each assertion that doesn't hold, in the order of paths, and their count."""
         counts: Counter[bool | None] = Counter()
         for _, (outcome, text) in sorted(self._asserting.items()):
-            compared = self._compare_with_recording(outcome, text)
+            compared = self._checked_assertions_after_recording(outcome, text)
             counts.update(it.holds for it in compared)
             yield from (f"{printable_path(outcome.path)}: {it}" for it in compared if it.holds is False)
         if counts:
@@ -45,11 +45,11 @@ class AssertionCheck:
                 f" not compared {counts[None]}"
             )
 
-    def _compare_with_recording(self, outcome: ScriptOutcome, text: ScriptText) -> list["CheckedAssertion"]:
+    def _checked_assertions_after_recording(self, outcome: ScriptOutcome, text: ScriptText) -> list["CheckedAssertion"]:
         # Only who has assertions pays for what reads scripts.
         from pdsuite.imports.assertion_checks import check_assertions
 
         script = text.octets.decode("utf-8", "surrogateescape")
-        recording = self._recorder.record_script(outcome.path, text.octets, outcome.settings).text
+        recording = self._recorder.record_script_or_note_reason(outcome.path, text.octets, outcome.settings).text
         mss = {**DEFAULTS, **dict(outcome.settings)}["mss"]
         return check_assertions(script, recording, outcome.row.line, mss if isinstance(mss, int) else 0)

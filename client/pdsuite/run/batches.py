@@ -32,7 +32,7 @@ class SuiteScript:
     held: bytes | None = None
 
 
-def make_outcome(script: SuiteScript, row: Row, line: bytes | None = None) -> ScriptOutcome:
+def make_outcome_with_row_line(script: SuiteScript, row: Row, line: bytes | None = None) -> ScriptOutcome:
     """What came of a script, whose text has this line where the row names one."""
     return ScriptOutcome(script.path, script.settings, row, line, is_strict=script.is_strict, expected=script.expected)
 
@@ -48,19 +48,19 @@ class Batch:
     pieces: tuple[Piece, ...]
 
 
-def group_into_batches(scripts: Iterable[SuiteScript]) -> list[Batch]:
+def batch_scripts_by_equal_settings(scripts: Iterable[SuiteScript]) -> list[Batch]:
     """The batches of all scripts: groups of equal settings in the order of their first scripts."""
     groups: dict[Settings, list[SuiteScript]] = {}
     for script in scripts:
         groups.setdefault(script.settings, []).append(script)
     return [
-        Batch(settings, tuple(split_by_size(part, PIECE_SIZE)))
+        Batch(settings, tuple(split_into_chunks_of_size(part, PIECE_SIZE)))
         for settings, group in groups.items()
-        for part in split_by_size(group, BATCH_SIZE)
+        for part in split_into_chunks_of_size(group, BATCH_SIZE)
     ]
 
 
-def split_by_size(items: Sequence[T], size: int) -> list[tuple[T, ...]]:
+def split_into_chunks_of_size(items: Sequence[T], size: int) -> list[tuple[T, ...]]:
     """The items in parts of so many, the last one with what is left."""
     rest = iter(items)
     parts = []

@@ -26,7 +26,7 @@ import pdsuite
 from pdsuite.faults import CutShortError, Fault
 from pdsuite.output.octets import printable_text
 from pdsuite.run import serialize
-from pdsuite.run.batches import Batch, split_by_size
+from pdsuite.run.batches import Batch, split_into_chunks_of_size
 from pdsuite.run.run_batches import Mapper, Step, error_piece
 from pdsuite.run.serialize import PackedBatch, WantedProgram
 from pdsuite.signals import Stop
@@ -54,14 +54,16 @@ class _Task:
 
 
 @contextmanager
-def cluster_mapper(address: str, wanted: WantedProgram, stop: Stop, note: Callable[[str], None]) -> Iterator[Mapper]:
+def open_cluster_mapper_when_worker_ready(
+    address: str, wanted: WantedProgram, stop: Stop, note: Callable[[str], None]
+) -> Iterator[Mapper]:
     """Has batches settled by the workers of a scheduler that have this machine's program."""
-    client = _connect_client(address)
+    client = _configure_library_and_connect_client(address)
     stop.raise_if_stopped()
     try:
         workers = _Cluster(client, address, wanted, stop, note)
-        workers.wait_for_worker()
-        yield workers.settle_batches
+        workers.wait_for_usable_worker_or_fault()
+        yield workers.run_batches_and_yield_steps_in_order
     finally:
         # A scheduler that went away answers no good-bye, and what ended the run counts.
         with suppress(OSError):
@@ -76,7 +78,7 @@ def _silence_library() -> None:
     sys.unraisablehook = lambda _: None
 
 
-def _connect_client(address: str) -> Client:
+def _configure_library_and_connect_client(address: str) -> Client:
     gc.enable()  # the library's objects have cycles
     _silence_library()
     dask.config.set({"distributed.comm.timeouts.connect": _PATIENCE})
@@ -84,15 +86,17 @@ def _connect_client(address: str) -> Client:
     pickle = import_module("cloudpickle")  # it declares no types
     for module in (pdsuite, serialize):
         pickle.register_pickle_by_value(module)
-    place = _shown_in_one_line(address)
+    place = _printable_in_one_short_line(address)
     try:
         resolve_address(address)
     except (OSError, ValueError) as error:
-        raise Fault(f"{place}: no address of a scheduler: {_shown_in_one_line(error)}") from error
+        raise Fault(f"{place}: no address of a scheduler: {_printable_in_one_short_line(error)}") from error
     try:
         return Client(address, timeout=_PATIENCE, set_as_default=False)
     except Exception as error:  # the library has many for this
-        raise Fault(f"{place}: no scheduler is reached within {_PATIENCE} s: {_shown_in_one_line(error)}") from error
+        raise Fault(
+            f"{place}: no scheduler is reached within {_PATIENCE} s: {_printable_in_one_short_line(error)}"
+        ) from error
 
 
 class _Cluster:
@@ -107,7 +111,7 @@ class _Cluster:
         note: Callable[[str], None],
     ) -> None:
         self._client = client
-        self._address = _shown_in_one_line(address)
+        self._address = _printable_in_one_short_line(address)
         self._wanted = wanted
         self._stop = stop
         self._note = note
@@ -120,35 +124,39 @@ class _Cluster:
         self._looked = 0.0
         self._served = time.monotonic()
 
-    def wait_for_worker(self) -> None:
+    def wait_for_usable_worker_or_fault(self) -> None:
         """Waits for a worker that may be used."""
-        self._look_for_workers()
+        self._refresh_usable_workers_if_due()
         while not self._threads:
             if self._has_no_worker_for_long():
                 raise Fault(f"{self._address}: no worker that can be used")
-            self._wait_for_event()
-            self._look_for_workers()
+            self._wait_for_done_task_stop_or_look()
+            self._refresh_usable_workers_if_due()
 
-    def settle_batches(self, batches: Iterable[Batch]) -> Generator[Step, None, None]:
+    def run_batches_and_yield_steps_in_order(self, batches: Iterable[Batch]) -> Generator[Step, None, None]:
         """Has batches settled, some ahead; their steps come in the order of the batches."""
-        left = (Batch(batch.settings, pieces) for batch in batches for pieces in split_by_size(batch.pieces, _PIECES))
+        left = (
+            Batch(batch.settings, pieces)
+            for batch in batches
+            for pieces in split_into_chunks_of_size(batch.pieces, _PIECES)
+        )
         tasks: deque[_Task] = deque()
         while True:
-            if self._look_for_workers():
+            if self._refresh_usable_workers_if_due():
                 self._resend_orphaned(tasks)
             room = max(1, _AHEAD * sum(self._threads.values())) - len(tasks)
             for batch in islice(left, max(0, room)):
-                tasks.append(_Task(batch, serialize.pack_batch(batch)))
-                self._send_task(tasks[-1])
+                tasks.append(_Task(batch, serialize.pack_batch_with_current_texts(batch)))
+                self._submit_task_or_leave_it_unsent(tasks[-1])
             if not tasks:
                 return
-            if (steps := self._steps_if_done(tasks[0])) is None:
-                self._wait_for_event()
+            if (steps := self._collect_steps_or_errors_if_done(tasks[0])) is None:
+                self._wait_for_done_task_stop_or_look()
             else:
                 tasks.popleft()
                 yield from steps
 
-    def _steps_if_done(self, task: _Task) -> list[Step] | None:
+    def _collect_steps_or_errors_if_done(self, task: _Task) -> list[Step] | None:
         """The steps of a task, if it has come to any."""
         if task.future is None:
             if task.sendings == _SENDINGS:
@@ -165,20 +173,24 @@ class _Cluster:
         except KilledWorker as killed:
             return _error_steps(task.run, f"{killed.allowed_failures + 1} workers ended that had it")
         except Exception as error:  # whatever a worker has for this
-            return _error_steps(task.run, f"a worker says: {_shown_in_one_line(error)}")
+            return _error_steps(task.run, f"a worker says: {_printable_in_one_short_line(error)}")
         if isinstance(answer, str):
             self._refuse_worker_and_resend(task, answer)
             return None
-        return list(serialize.steps_from_answer(task.run, task.parcel, answer, self._note))
+        return list(serialize.rebuild_steps_and_note_messages(task.run, task.parcel, answer, self._note))
 
-    def _send_task(self, task: _Task) -> None:
+    def _submit_task_or_leave_it_unsent(self, task: _Task) -> None:
         """Sends a task to the workers that may be used, if there are any."""
         task.workers = frozenset(self._threads)
         task.future = None
         if task.workers and task.sendings < _SENDINGS:
             task.sendings += 1
             task.future = self._client.submit(
-                serialize.run_packed_batch, task.parcel, self._wanted, workers=list(task.workers), pure=False
+                serialize.run_packed_batch_or_program_fault,
+                task.parcel,
+                self._wanted,
+                workers=list(task.workers),
+                pure=False,
             )
             task.future.add_done_callback(self._wake_waiter)
 
@@ -187,56 +199,62 @@ class _Cluster:
         for task in tasks:
             is_settled = task.future is not None and task.future.status == "error"
             if not is_settled and not task.workers & self._threads.keys():
-                self._send_task(task)
+                self._submit_task_or_leave_it_unsent(task)
 
     def _refuse_worker_and_resend(self, task: _Task, fault: str) -> None:
         """Uses the worker no longer that has other programs by now, and sends its task elsewhere."""
-        for workers in self._query_scheduler(self._client.who_has, [task.future]).values():
+        for workers in self._call_or_raise_scheduler_gone(self._client.who_has, [task.future]).values():
             for worker in workers:
-                self._refuse_worker(worker, fault)
+                self._drop_worker_and_print_fault(worker, fault)
         task.sendings -= 1
-        self._send_task(task)
+        self._submit_task_or_leave_it_unsent(task)
 
-    def _look_for_workers(self) -> bool:
+    def _refresh_usable_workers_if_due(self) -> bool:
         """Looks which workers there are, once in a while; whether it did."""
         now = time.monotonic()
         if now < self._looked + _LOOK:
             return False
         self._looked = now
-        threads = self._query_scheduler(self._client.nthreads)
+        threads = self._call_or_raise_scheduler_gone(self._client.nthreads)
         self._faults = {it: fault for it, fault in self._faults.items() if it in threads}
-        self._check_new_workers([it for it in threads if it not in self._faults])
+        self._admit_or_refuse_new_workers([it for it in threads if it not in self._faults])
         self._threads = {it: threads[it] for it, fault in self._faults.items() if not fault}
         if self._threads:
             self._served = now
         return True
 
-    def _check_new_workers(self, workers: list[str]) -> None:
+    def _admit_or_refuse_new_workers(self, workers: list[str]) -> None:
         """Queries new workers whether they can be used. One that doesn't answer is queried again."""
         here = platform.python_version_tuple()[:2]
-        pythons = self._call_on_workers(workers, platform.python_version_tuple)
+        pythons = self._call_on_workers_omitting_silent(workers, platform.python_version_tuple)
         for worker, python in pythons.items():
             if tuple(python[:2]) != here:
-                self._refuse_worker(worker, f"has Python {'.'.join(python)}")
+                self._drop_worker_and_print_fault(worker, f"has Python {'.'.join(python)}")
         same = [it for it in pythons if it not in self._faults]
-        for worker, fault in self._call_on_workers(same, serialize.program_fault, self._wanted).items():
+        for worker, fault in self._call_on_workers_omitting_silent(
+            same, serialize.why_wanted_program_unusable_or_empty, self._wanted
+        ).items():
             self._faults[worker] = ""
             if fault:
-                self._refuse_worker(worker, _shown_in_one_line(fault))
+                self._drop_worker_and_print_fault(worker, _printable_in_one_short_line(fault))
 
-    def _refuse_worker(self, worker: str, fault: str) -> None:
+    def _drop_worker_and_print_fault(self, worker: str, fault: str) -> None:
         self._faults[worker] = fault
         self._threads.pop(worker, None)
         self._note(f"pdsuite: worker {worker} isn't used: {fault}")
 
-    def _call_on_workers(self, workers: list[str], function: Callable[..., Any], *words: Any) -> dict[str, Any]:
+    def _call_on_workers_omitting_silent(
+        self, workers: list[str], function: Callable[..., Any], *words: Any
+    ) -> dict[str, Any]:
         """What workers answer to a call, without those that don't."""
         if not workers:
             return {}
-        answers = self._query_scheduler(self._client.run, function, *words, workers=workers, on_error="return")
+        answers = self._call_or_raise_scheduler_gone(
+            self._client.run, function, *words, workers=workers, on_error="return"
+        )
         return {it: answer for it, answer in answers.items() if not isinstance(answer, OSError)}
 
-    def _query_scheduler(self, call: Callable[..., Any], *words: Any, **more: Any) -> Any:
+    def _call_or_raise_scheduler_gone(self, call: Callable[..., Any], *words: Any, **more: Any) -> Any:
         """What the scheduler answers."""
         try:
             return call(*words, **more)
@@ -249,7 +267,7 @@ class _Cluster:
     def _has_no_worker_for_long(self) -> bool:
         return not self._threads and time.monotonic() > self._served + _PATIENCE
 
-    def _wait_for_event(self) -> None:
+    def _wait_for_done_task_stop_or_look(self) -> None:
         """Waits until a task is done, a signal comes, or it is time to look at the workers."""
         seconds = self._looked + _LOOK - time.monotonic()
         ready, _, _ = select.select([self._stop, self._near], [], [], max(0.0, seconds))
@@ -267,6 +285,6 @@ def _error_steps(batch: Batch, reason: str) -> list[Step]:
     return [error_piece(piece, reason) for piece in batch.pieces]
 
 
-def _shown_in_one_line(what: object) -> str:
+def _printable_in_one_short_line(what: object) -> str:
     """In one line."""
     return printable_text(" ".join(str(what).split()), 200)

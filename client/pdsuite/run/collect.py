@@ -7,7 +7,7 @@ from dataclasses import dataclass, replace
 from pathlib import Path
 
 from pdsuite.faults import Fault, error_reason
-from pdsuite.output.octets import absolute_path_function
+from pdsuite.output.octets import make_absolute_printable_path_function
 from pdsuite.run.batches import SuiteScript
 from pdsuite.scripts.config import SuiteConfig
 from pdsuite.scripts.discover import ScriptFile, find_scripts_and_folders
@@ -33,53 +33,60 @@ _WHOLE = Selection()
 INPUT = Path("-")
 
 
-def find_selected_scripts(
+def find_selected_scripts_and_read_configs(
     paths: Sequence[Path], only: Sequence[str], suite: SuiteConfig, stop: Stop, part: Selection = _WHOLE
 ) -> list[ScriptFile]:
     """The scripts that are meant, in the order of their paths; all files with their settings are read."""
     finding = find_scripts_and_folders(paths, only, stop)
     if not finding.scripts:
         raise Fault("no script found")
-    suite.read_config_files(finding.folders)
-    return _select_scripts(finding.scripts, part)
+    suite.read_own_config_files_of_folders(finding.folders)
+    return _filter_by_shard_and_paths(finding.scripts, part)
 
 
-def standard_input_script(paths: Sequence[Path], suite: SuiteConfig, is_strict: bool = False) -> SuiteScript | None:
+def read_standard_input_script_if_named(
+    paths: Sequence[Path], suite: SuiteConfig, is_strict: bool = False
+) -> SuiteScript | None:
     """The script that standard input is, where `-` is meant; it has the settings of the working folder."""
     if INPUT not in paths:
         return None
     if len(paths) > 1:
         raise Fault(f"{INPUT}: standard input stands alone")
     folder = os.path.realpath(os.curdir)
-    suite.read_config_files([folder])
+    suite.read_own_config_files_of_folders([folder])
     return replace(
-        _make_script(0, ScriptFile(str(INPUT), folder, str(INPUT)), suite, is_strict), held=_read_standard_input()
+        _make_suite_script_keeping_file_fault(0, ScriptFile(str(INPUT), folder, str(INPUT)), suite, is_strict),
+        held=_standard_input_up_to_one_past_limit(),
     )
 
 
-def _read_standard_input() -> bytes:
+def _standard_input_up_to_one_past_limit() -> bytes:
     try:
         return sys.stdin.buffer.read(LONGEST_FILE + 1)
     except OSError as error:
         raise Fault(f"standard input: {error_reason(error)}") from error
 
 
-def make_scripts(found: Iterable[ScriptFile], suite: SuiteConfig, is_strict: bool = False) -> list[SuiteScript]:
+def suite_scripts_with_config(
+    found: Iterable[ScriptFile], suite: SuiteConfig, is_strict: bool = False
+) -> list[SuiteScript]:
     """The scripts with what holds for them; all of them are strict, or those that the files name."""
-    return [_make_script(index, it, suite, is_strict) for index, it in enumerate(found)]
+    return [_make_suite_script_keeping_file_fault(index, it, suite, is_strict) for index, it in enumerate(found)]
 
 
-def _select_scripts(found: list[ScriptFile], part: Selection) -> list[ScriptFile]:
+def _filter_by_shard_and_paths(found: list[ScriptFile], part: Selection) -> list[ScriptFile]:
     """The scripts of a part. A shard is one of all scripts, so that what failed on its machine is found there again."""
     if part.shard is not None:
         found = scripts_of_shard(found, part.shard)
     if part.paths is None:
         return found
-    absolute = absolute_path_function()
+    absolute = make_absolute_printable_path_function()
     return [it for it in found if absolute(it.path) in part.paths]
 
 
-def _make_script(index: int, it: ScriptFile, suite: SuiteConfig, is_strict: bool) -> SuiteScript:
+def _make_suite_script_keeping_file_fault(
+    index: int, it: ScriptFile, suite: SuiteConfig, is_strict: bool
+) -> SuiteScript:
     if it.fault:
         return SuiteScript(index, it.path, (), it.fault)
     rules = suite.rules_of_script(it)

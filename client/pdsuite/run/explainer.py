@@ -2,11 +2,11 @@
 
 from dataclasses import replace
 
-from pdsuite.programs.cause_text import block_lines_of, make_printable
+from pdsuite.programs.cause_text import explanation_lines_below_first, make_printable
 from pdsuite.programs.protocol import Cause
 from pdsuite.programs.verdict import Verdict
-from pdsuite.run.outcomes import ScriptOutcome, warning_at_end
-from pdsuite.run.script_style import inserts_in_script_style
+from pdsuite.run.outcomes import ScriptOutcome, end_warning_of_passing_row
+from pdsuite.run.script_style import drop_insert_windows_if_script_has_none
 from pdsuite.scripts.text import ScriptText
 
 # What has it explain why scripts don't pass, that as JSON, and what those that pass leave at their ends.
@@ -19,7 +19,7 @@ EXPLAIN_OPTIONS = (EXPLAIN, LEFTOVERS, JSON)
 EXPLAIN_FAILURES = (EXPLAIN, JSON)
 
 
-def with_explanation(outcome: ScriptOutcome, cause: Cause | None, text: ScriptText) -> ScriptOutcome:
+def outcome_explained_by_cause(outcome: ScriptOutcome, cause: Cause | None, text: ScriptText) -> ScriptOutcome:
     """The outcome of a text with its explanation: why it doesn't pass, or what is to be warned of at its end.
 
     Of a text that is no script it says where that breaks off.
@@ -28,7 +28,7 @@ def with_explanation(outcome: ScriptOutcome, cause: Cause | None, text: ScriptTe
     if cause is None:
         return outcome
     if row.line is None:
-        return replace(outcome, at_end=warning_at_end(row, cause))
-    lines = inserts_in_script_style(block_lines_of(cause), text.octets)
+        return replace(outcome, at_end=end_warning_of_passing_row(row, cause))
+    lines = drop_insert_windows_if_script_has_none(explanation_lines_below_first(cause), text.octets)
     explanation = cause if row.verdict is Verdict.SYNTAX else None
     return replace(outcome, why=make_printable(str(cause.get("what", ""))), block_lines=lines, explanation=explanation)

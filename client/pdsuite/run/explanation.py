@@ -6,12 +6,12 @@ from dataclasses import replace
 from pdsuite.packetdrill.items import Packet
 from pdsuite.packetdrill.layout import Event, Layout, layout_of
 from pdsuite.packetdrill.lines import Extent, TextLines
-from pdsuite.packetdrill.reader import tokens_in_one_line
+from pdsuite.packetdrill.reader import join_tokens_in_one_line
 from pdsuite.packetdrill.tokens import tokens_of
 from pdsuite.programs.cause_text import make_printable
 from pdsuite.programs.protocol import Cause
 from pdsuite.programs.verdict import Row
-from pdsuite.run.locate_row import RowLocation, failing_event, locate_row
+from pdsuite.run.locate_row import RowLocation, find_failing_event_of_row, locate_row_field_event_or_line
 from pdsuite.run.outcomes import ScriptOutcome
 from pdsuite.run.run_batches import SettledPiece, Step
 from pdsuite.scripts.text import ScriptText
@@ -22,45 +22,49 @@ _NAME = "name"
 _SCRIPT_PACKET, _ACTUAL_PACKET = "script_packet", "actual_packet"
 
 
-def with_whole_explanations(steps: Iterable[Step]) -> Iterator[Step]:
+def add_places_and_packet_fields_to_steps(steps: Iterable[Step]) -> Iterator[Step]:
     """The steps, in which each explanation has the place of its row and its packets by field."""
     for step in steps:
         if isinstance(step, SettledPiece):
             whole = [
-                _with_whole_explanation(it, step.causes.get(script.index), step.texts.get(script.index))
+                _add_place_and_packet_fields_to_outcome(it, step.causes.get(script.index), step.texts.get(script.index))
                 for script, it in step.outcomes
             ]
             step = replace(step, outcomes=[(script, it) for (script, _), it in zip(step.outcomes, whole)])
         yield step
 
 
-def _with_whole_explanation(outcome: ScriptOutcome, cause: Cause | None, text: ScriptText | None) -> ScriptOutcome:
+def _add_place_and_packet_fields_to_outcome(
+    outcome: ScriptOutcome, cause: Cause | None, text: ScriptText | None
+) -> ScriptOutcome:
     if cause is None or text is None or outcome.row.line is None:
         return outcome
-    return replace(outcome, explanation=explanation_of(outcome.row, cause, text))
+    return replace(outcome, explanation=explanation_with_place_and_packet_fields(outcome.row, cause, text))
 
 
-def explanation_of(row: Row, cause: Cause, text: ScriptText) -> Mapping[str, object]:
+def explanation_with_place_and_packet_fields(row: Row, cause: Cause, text: ScriptText) -> Mapping[str, object]:
     """What the program says of a row, safe to print, with the place in the text and the packets by field."""
     script = text.octets.decode("utf-8", "surrogateescape")
     layout, lines = layout_of(script), TextLines(script)
     explained: dict[str, object] = {key: _make_value_printable(value) for key, value in cause.items() if key != _NAME}
-    explained["place"] = _place_fields(locate_row(row, cause, layout, lines), lines)
+    explained["place"] = _line_and_column_fields_of_place(
+        locate_row_field_event_or_line(row, cause, layout, lines), lines
+    )
     fields = {
         key: _packet_fields(event) for key, event in _script_and_actual_packets(row, cause, layout) if event is not None
     }
     return {**explained, "fields": fields} if fields else explained
 
 
-def _place_fields(place: RowLocation, lines: TextLines) -> dict[str, object]:
+def _line_and_column_fields_of_place(place: RowLocation, lines: TextLines) -> dict[str, object]:
     """Lines count from 1, and columns are octets before the place in its line."""
-    line, column = _line_and_column(place.extent.start, lines)
-    end_line, end_column = _line_and_column(place.extent.end, lines)
+    line, column = _line_and_octet_column(place.extent.start, lines)
+    end_line, end_column = _line_and_octet_column(place.extent.end, lines)
     fields: dict[str, object] = {"field": place.field} if place.field else {}
     return {**fields, "line": line, "column": column, "end_line": end_line, "end_column": end_column}
 
 
-def _line_and_column(offset: int, lines: TextLines) -> tuple[int, int]:
+def _line_and_octet_column(offset: int, lines: TextLines) -> tuple[int, int]:
     line = lines.line_of(offset)
     return line + 1, len(lines.text[lines.line_start(line) : offset].encode("utf-8", "surrogateescape"))
 
@@ -68,16 +72,18 @@ def _line_and_column(offset: int, lines: TextLines) -> tuple[int, int]:
 def _script_and_actual_packets(row: Row, cause: Cause, layout: Layout) -> Iterator[tuple[str, Event | None]]:
     """The packet of the script, as its text has it, and the one that was sent."""
     if _SCRIPT_PACKET in cause:
-        event = failing_event(row, cause, layout)
-        yield _SCRIPT_PACKET, event if event is not None and event.is_expected else _parse_packet(cause[_SCRIPT_PACKET])
+        event = find_failing_event_of_row(row, cause, layout)
+        if event is None or not event.is_expected_outbound_packet:
+            event = _parse_packet_event_if_any(cause[_SCRIPT_PACKET])
+        yield _SCRIPT_PACKET, event
     if _ACTUAL_PACKET in cause:
-        yield _ACTUAL_PACKET, _parse_packet(cause[_ACTUAL_PACKET])
+        yield _ACTUAL_PACKET, _parse_packet_event_if_any(cause[_ACTUAL_PACKET])
 
 
-def _parse_packet(packet: object) -> Event | None:
+def _parse_packet_event_if_any(packet: object) -> Event | None:
     """A packet of the program's words."""
     events = layout_of(packet).items if isinstance(packet, str) else ()
-    return next((it for it in events if it.is_expected), None)
+    return next((it for it in events if it.is_expected_outbound_packet), None)
 
 
 def _packet_fields(event: Event) -> dict[str, object]:
@@ -93,7 +99,7 @@ def _packet_fields(event: Event) -> dict[str, object]:
 
 
 def _field_text(event: Event, extent: Extent) -> str:
-    return tokens_in_one_line(list(tokens_of(event.text[extent.start : extent.end])))
+    return join_tokens_in_one_line(list(tokens_of(event.text[extent.start : extent.end])))
 
 
 def _make_value_printable(value: object) -> object:

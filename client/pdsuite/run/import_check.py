@@ -13,27 +13,34 @@ MARK = b"// why: set-up, which is read and never run"
 _EARLY = "early by: "
 
 
-def with_dropped_features(steps: Iterable[Step]) -> Iterator[Step]:
+def add_dropped_import_features_to_failures(steps: Iterable[Step]) -> Iterator[Step]:
     """The steps, with what acts at the lines at which imported scripts fail."""
     for step in steps:
         if isinstance(step, SettledPiece):
-            outcomes = [(it, _with_dropped_feature(outcome, step.texts.get(it.index))) for it, outcome in step.outcomes]
+            outcomes = [
+                (it, _add_acting_dropped_feature_if_failing(outcome, step.texts.get(it.index)))
+                for it, outcome in step.outcomes
+            ]
             step = replace(step, outcomes=outcomes)
         yield step
 
 
-def _with_dropped_feature(outcome: ScriptOutcome, text: ScriptText | None) -> ScriptOutcome:
+def _add_acting_dropped_feature_if_failing(outcome: ScriptOutcome, text: ScriptText | None) -> ScriptOutcome:
     if outcome.row.verdict is not Verdict.FAIL or text is None or text.octets.find(MARK) < 0:
         return outcome
     # Only who has imported scripts pays for what reads them.
-    from pdsuite.imports.dropped_features import acting_feature
+    from pdsuite.imports.dropped_features import dropped_feature_explaining_failure
     from pdsuite.packetdrill.layout import layout_of
-    from pdsuite.run.line_diff import count_passed_events, event_of_block
+    from pdsuite.run.line_diff import count_passed_events, event_texts_by_key_in_block_lines
 
     layout = layout_of(text.octets.decode("utf-8", "surrogateescape"))
-    place = count_passed_events(layout, outcome.row, event_of_block(outcome.block_lines))
+    place = count_passed_events(layout, outcome.row, event_texts_by_key_in_block_lines(outcome.block_lines))
     is_early = any(it.startswith(_EARLY) for it in outcome.block_lines)
-    found = acting_feature(layout.events, place, outcome.row.word, is_early) if place < len(layout.events) else None
+    found = (
+        dropped_feature_explaining_failure(layout.packets_and_calls, place, outcome.row.word, is_early)
+        if place < len(layout.packets_and_calls)
+        else None
+    )
     return (
         outcome
         if found is None

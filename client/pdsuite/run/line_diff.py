@@ -4,7 +4,7 @@ from collections.abc import Iterator, Mapping, Sequence
 from dataclasses import dataclass, replace
 
 from pdsuite.output.octets import printable_text
-from pdsuite.packetdrill.columns import Mark, PacketColumns, PacketField, columns_of_packets
+from pdsuite.packetdrill.columns import Mark, PacketColumns, PacketField, marked_field_columns_of_both_packets
 from pdsuite.packetdrill.items import SECOND
 from pdsuite.packetdrill.layout import Event, Layout, layout_of
 from pdsuite.packetdrill.recorded import (
@@ -12,11 +12,11 @@ from pdsuite.packetdrill.recorded import (
     RecordedEvent,
     match_events,
     recorded_events_in,
-    tolerance_of_script,
+    tolerance_from_header_or_settings,
 )
 from pdsuite.programs.recorder import Recording
 from pdsuite.programs.verdict import Row
-from pdsuite.run.locate_row import failing_event
+from pdsuite.run.locate_row import find_failing_event_of_row
 from pdsuite.scripts.defaults import DEFAULTS
 from pdsuite.scripts.settings import Settings
 
@@ -46,26 +46,33 @@ class LineDiff:
     fault: str = ""
 
 
-def line_diff(row: Row, block_lines: Sequence[str], text: str, recording: Recording, settings: Settings) -> LineDiff:
+def line_diff_or_recording_fault(
+    row: Row, block_lines: Sequence[str], text: str, recording: Recording, settings: Settings
+) -> LineDiff:
     """What each line of a script that fails was met by, as a recording with its trace says."""
     if recording.fault:
         return LineDiff((), recording.fault)
-    return LineDiff(diff_lines(row, block_lines, text, recording.text, settings))
+    return LineDiff(diff_script_events_with_recording(row, block_lines, text, recording.text, settings))
 
 
-def diff_lines(
+def diff_script_events_with_recording(
     row: Row, block_lines: Sequence[str], text: str, recording: str, settings: Settings
 ) -> tuple[DiffLine, ...]:
     """What each event of a script that fails was met by, in a recording with its trace."""
     layout, recorded = layout_of(text), recorded_events_in(recording)
-    allowed = tolerance_of_script(layout.items, tolerance_us_of(settings))
+    allowed = tolerance_from_header_or_settings(layout.items, tolerance_us_of_settings(settings))
     met = list(
-        match_events(layout.events, recorded, count_passed_events(layout, row, event_of_block(block_lines)), allowed)
+        match_events(
+            layout.packets_and_calls,
+            recorded,
+            count_passed_events(layout, row, event_texts_by_key_in_block_lines(block_lines)),
+            allowed,
+        )
     )
-    return tuple(_diff_lines_in_order(met, recorded, recording, allowed))
+    return tuple(_merge_matched_and_unexpected_lines(met, recorded, recording, allowed))
 
 
-def tolerance_us_of(settings: Settings) -> int:
+def tolerance_us_of_settings(settings: Settings) -> int:
     """The tolerance that settings give, in microseconds."""
     value = {**DEFAULTS, **dict(settings)}["tolerance_us"]
     return value if isinstance(value, int) else SECOND
@@ -73,13 +80,13 @@ def tolerance_us_of(settings: Settings) -> int:
 
 def count_passed_events(layout: Layout, row: Row, cause: Mapping[str, object] | None) -> int:
     """How many events passed before the one of a row that isn't a pass, as far as the row says."""
-    event = failing_event(row, cause, layout)
-    if event is not None and event in layout.events:
-        return layout.events.index(event)
-    return sum(it.item.line < (row.line or 0) for it in layout.events)
+    event = find_failing_event_of_row(row, cause, layout)
+    if event is not None and event in layout.packets_and_calls:
+        return layout.packets_and_calls.index(event)
+    return sum(it.item.line < (row.line or 0) for it in layout.packets_and_calls)
 
 
-def event_of_block(block_lines: Sequence[str]) -> dict[str, object]:
+def event_texts_by_key_in_block_lines(block_lines: Sequence[str]) -> dict[str, object]:
     """The event that lines below a row have."""
     return {
         key: line.removeprefix(begin)
@@ -89,7 +96,7 @@ def event_of_block(block_lines: Sequence[str]) -> dict[str, object]:
     }
 
 
-def _diff_lines_in_order(
+def _merge_matched_and_unexpected_lines(
     met: Sequence[MatchedEvent], recorded: Sequence[RecordedEvent], recording: str, allowed: int
 ) -> Iterator[DiffLine]:
     """The events in order; what none of them expects comes before the next that met something."""
@@ -99,54 +106,59 @@ def _diff_lines_in_order(
         if it.recorded is not None:
             while left and left[0].start < it.recorded.start:
                 yield _unexpected_line(left.pop(0), recording)
-        yield _event_line(it, recording, allowed)
+        yield _diff_line_of_matched_event(it, recording, allowed)
     for one in left:
         yield _unexpected_line(one, recording)
 
 
 def _unexpected_line(one: RecordedEvent, recording: str) -> DiffLine:
-    return DiffLine(None, (), (PacketField(_sent_packet_text(one, recording)),), True)
+    return DiffLine(None, (), (PacketField(_packet_text_with_moment_comment(one, recording)),), True)
 
 
-def _event_line(met: MatchedEvent, recording: str, allowed: int) -> DiffLine:
+def _diff_line_of_matched_event(met: MatchedEvent, recording: str, allowed: int) -> DiffLine:
     """An event beside what it was met by."""
     event, one = met.event, met.recorded
     written = _event_text(event)
     if one is None:
         return DiffLine(event.item.line, (PacketField(written),), (), not event.is_input)
-    if not event.is_expected:
-        return _call_line(event, one, recording)
+    if not event.is_expected_outbound_packet:
+        return _diff_line_of_call_result(event, one, recording)
     is_late = not met.first - allowed <= one.moment <= met.last + allowed
     script, actual = map(
-        _soften_marks, columns_of_packets(written, _sent_packet_text(one, recording), _TIME if is_late else "")
+        _mark_failing_fields_as_differing,
+        marked_field_columns_of_both_packets(
+            written, _packet_text_with_moment_comment(one, recording), _TIME if is_late else ""
+        ),
     )
     if any(it.mark is not Mark.NONE for it in script):
         return DiffLine(event.item.line, script, actual, True)
     return DiffLine(event.item.line, (PacketField(written),))
 
 
-def _soften_marks(packet: PacketColumns) -> PacketColumns:
+def _mark_failing_fields_as_differing(packet: PacketColumns) -> PacketColumns:
     """A packet whose marks say no more than that a field differs."""
     return tuple(replace(it, mark=Mark.DIFFERS) if it.mark is Mark.FAILS else it for it in packet)
 
 
-def _call_line(event: Event, one: RecordedEvent, recording: str) -> DiffLine:
+def _diff_line_of_call_result(event: Event, one: RecordedEvent, recording: str) -> DiffLine:
     """A call beside its answer; a packet that arrives is met by itself."""
     written, result = _event_text(event), event.field_extents.get("result")
     if result is None:
         return DiffLine(event.item.line, (PacketField(written),))
     wanted = event.text[result.start : result.end]
-    answered = layout_of(recording[one.start : one.end]).events
+    answered = layout_of(recording[one.start : one.end]).packets_and_calls
     place = answered[0].field_extents.get("result") if answered else None
     got = "" if place is None else answered[0].text[place.start : place.end]
     if "".join(got.split()) == "".join(wanted.split()) or not got:
         return DiffLine(event.item.line, (PacketField(written),))
     before = printable_text(" ".join(event.text[event.item.start : result.start].split()))
     marked = PacketField(before, blanks=1)
-    return DiffLine(event.item.line, (marked, _differing_field(wanted)), (marked, _differing_field(got)), True)
+    return DiffLine(
+        event.item.line, (marked, _text_marked_as_differing(wanted)), (marked, _text_marked_as_differing(got)), True
+    )
 
 
-def _differing_field(text: str) -> PacketField:
+def _text_marked_as_differing(text: str) -> PacketField:
     return PacketField(printable_text(" ".join(text.split())), Mark.DIFFERS)
 
 
@@ -155,7 +167,7 @@ def _event_text(event: Event) -> str:
     return printable_text(" ".join(event.text[event.item.start : event.item.end].split()))
 
 
-def _sent_packet_text(one: RecordedEvent, recording: str) -> str:
+def _packet_text_with_moment_comment(one: RecordedEvent, recording: str) -> str:
     """A packet that was sent, with its moment in a comment."""
     moment = f"{one.moment // SECOND}.{one.moment % SECOND:06}"
     return f"{printable_text(recording[one.start : one.end])} // {moment}"

@@ -8,13 +8,13 @@ from dataclasses import dataclass, field
 from pathlib import Path
 
 from pdsuite.programs.program import Program
-from pdsuite.run.batches import Batch, split_by_size
+from pdsuite.run.batches import Batch, split_into_chunks_of_size
 from pdsuite.run.run_batches import (
     LoadText,
     Mapper,
     Step,
-    load_script_text,
-    run_batch_steps,
+    load_script_text_or_fault,
+    run_batch_yielding_waits_and_restarts,
     starter_with_options,
     starter_without_explanations,
 )
@@ -27,7 +27,7 @@ _AHEAD = 4
 
 
 def local_mapper(
-    program: Path, options: tuple[str, ...], workers: int, stop: Stop, load_text: LoadText = load_script_text
+    program: Path, options: tuple[str, ...], workers: int, stop: Stop, load_text: LoadText = load_script_text_or_fault
 ) -> Mapper:
     """Has batches settled by programs that are started here, and that explain scripts as these options say."""
     start, plain_start = starter_with_options(program, options, 1, stop), starter_without_explanations(
@@ -35,13 +35,19 @@ def local_mapper(
     )
     most = max(1, workers)
 
-    def settle_batches(batches: Iterable[Batch]) -> Generator[Step, None, None]:
-        left = (Batch(batch.settings, pieces) for batch in batches for pieces in split_by_size(batch.pieces, _PIECES))
+    def run_batches_and_yield_steps_in_order(batches: Iterable[Batch]) -> Generator[Step, None, None]:
+        left = (
+            Batch(batch.settings, pieces)
+            for batch in batches
+            for pieces in split_into_chunks_of_size(batch.pieces, _PIECES)
+        )
         begun: deque[_RunningBatch] = deque()
         with ExitStack() as held:
             while True:
                 while _can_begin_batch(begun, most) and (batch := next(left, None)) is not None:
-                    steps = held.enter_context(closing(run_batch_steps(batch, start, load_text, plain_start)))
+                    steps = held.enter_context(
+                        closing(run_batch_yielding_waits_and_restarts(batch, start, load_text, plain_start))
+                    )
                     begun.append(_RunningBatch(steps))
                 if not begun:
                     return
@@ -52,12 +58,12 @@ def local_mapper(
                     begun.popleft()
                     continue
                 try:
-                    _wait_and_advance([it for it in begun if not it.is_over])
+                    _wait_and_advance_ready_batches([it for it in begun if not it.is_over])
                 except StoppedError:
                     yield from (step for it in begun for step in it.steps)
                     raise
 
-    return settle_batches
+    return run_batches_and_yield_steps_in_order
 
 
 @dataclass
@@ -87,7 +93,7 @@ def _can_begin_batch(begun: Collection[_RunningBatch], most: int) -> bool:
     return len(begun) < _AHEAD * most and sum(not it.is_over for it in begun) < most
 
 
-def _wait_and_advance(each: Iterable[_RunningBatch]) -> None:
+def _wait_and_advance_ready_batches(each: Iterable[_RunningBatch]) -> None:
     """Waits until some can go on, and lets these."""
     poll = select.poll()
     waiting = {it.program.fileno(): it for it in each if it.program is not None}

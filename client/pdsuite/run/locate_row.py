@@ -40,28 +40,28 @@ class RowLocation:
     field: str = ""
 
 
-def locate_row(row: Row, cause: Cause | None, layout: Layout, lines: TextLines) -> RowLocation:
+def locate_row_field_event_or_line(row: Row, cause: Cause | None, layout: Layout, lines: TextLines) -> RowLocation:
     """The field that a row is about, else its event, else its line."""
     if row.line is None:
-        return RowLocation(lines.trimmed_line_extent(0))
+        return RowLocation(lines.line_extent_after_indent(0))
     line = min(row.line, lines.line_count) - 1
     if row.verdict is Verdict.SYNTAX:
         return RowLocation(_syntax_error_extent(line, cause, layout, lines))
-    event = failing_event(row, cause, layout)
+    event = find_failing_event_of_row(row, cause, layout)
     if event is None:
-        return RowLocation(lines.trimmed_line_extent(line))
+        return RowLocation(lines.line_extent_after_indent(line))
     field = "time" if row.word == "backwards" else row.word or _RULES.get(str((cause or {}).get("rule")), "")
     extent = event.field_extents.get(field)
     return RowLocation(event.extent) if extent is None else RowLocation(extent, field)
 
 
-def failing_event(row: Row, cause: Cause | None, layout: Layout) -> Event | None:
+def find_failing_event_of_row(row: Row, cause: Cause | None, layout: Layout) -> Event | None:
     """The event that a row is about."""
     if row.line is None:
         return None
     explanation = cause or {}
     printed = next((str(explanation[it]) for it in ("script_packet", "call", "event") if it in explanation), "")
-    return layout.item_of_line(row.line, printed)
+    return layout.find_item_starting_on_line(row.line, printed)
 
 
 def _syntax_error_extent(line: int, cause: Cause | None, layout: Layout, lines: TextLines) -> Extent:
@@ -69,24 +69,24 @@ def _syntax_error_extent(line: int, cause: Cause | None, layout: Layout, lines: 
     explanation = cause or {}
     column, number = explanation.get("column"), explanation.get("text_line")
     if not isinstance(column, int):
-        return lines.trimmed_line_extent(line)
+        return lines.line_extent_after_indent(line)
     if isinstance(number, int):
         line = number - 1
-    start = lines.line_start(line) + character_at_shown_column(lines.line_content(line), column)
+    start = lines.line_start(line) + character_index_at_shown_column(lines.line_content(line), column)
     found = _TOKEN.match(layout.text, start)
     return Extent(start, start + 1 if found is None else found.end())
 
 
-def character_at_shown_column(content: str, column: int) -> int:
+def character_index_at_shown_column(content: str, column: int) -> int:
     """The character of a line that stands at a column of it as the program shows it, where a hidden octet takes 4."""
     shown = 0
     for place, character in enumerate(content):
         if shown >= column:
             return place
-        shown += 1 if " " <= character <= "~" else 4 * _octet_count(character)
+        shown += 1 if " " <= character <= "~" else 4 * _octet_count_of_character(character)
     return len(content)
 
 
-def _octet_count(character: str) -> int:
+def _octet_count_of_character(character: str) -> int:
     """How many octets a character is of; one that isn't UTF-8 stands as Python's `surrogateescape` has it."""
     return 1 if "\udc80" <= character <= "\udcff" else len(character.encode("utf-8", "surrogatepass"))

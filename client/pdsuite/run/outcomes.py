@@ -57,7 +57,7 @@ class ScriptOutcome:
     line_diff: "LineDiff | None" = None
 
     @property
-    def line(self) -> int | None:
+    def explained_or_row_line_number(self) -> int | None:
         """The line of its text that the row is about: the row's, or the one before at whose end a text breaks off."""
         found = self.explanation.get(_TEXT_LINE) if self.explanation is not None else None
         return found if isinstance(found, int) else self.row.line
@@ -65,7 +65,7 @@ class ScriptOutcome:
     @property
     def is_known_failure(self) -> bool:
         """Whether the script doesn't pass, as is expected of it."""
-        return self.expected is not None and self.expected.fits_row(self.row.whole_text)
+        return self.expected is not None and self.expected.is_beginning_of_row(self.row.whole_text_without_name)
 
     @property
     def has_unexpected_row(self) -> bool:
@@ -97,7 +97,7 @@ class ScriptOutcome:
         return self.row.verdict is Verdict.PASS and not (self.is_strict and self.warnings)
 
 
-def warning_at_end(row: Row, cause: Mapping[str, object] | None) -> str:
+def end_warning_of_passing_row(row: Row, cause: Mapping[str, object] | None) -> str:
     """What is to be warned of at the end of a script that passes, in the words that follow `passes, but`."""
     if cause is None or row.verdict is not Verdict.PASS or not row.number:
         return ""
@@ -134,7 +134,7 @@ class OutcomeTotals:
         return sum(self.counts.values())
 
     @property
-    def passing_count(self) -> int:
+    def passing_count_without_strict_warnings(self) -> int:
         """How many scripts pass, and fail by no warning."""
         return self.counts[Verdict.PASS] - self.failing
 
@@ -154,8 +154,10 @@ class OutcomeTotals:
         warnings = [f"warnings {self.warnings}"] if self.warnings else []
         return " ".join([f"total {self.script_count}", *counts, *warnings])
 
-    def exit_status(self) -> int:
+    def pass_fail_or_error_exit_status(self) -> int:
         """The exit status: 0 where each script passes or is known not to, 2 where one couldn't be run, else 1."""
         if self.counts[Verdict.ERROR]:
             return 2
-        return 0 if self.passing_count + self.counts[CountedAs.KNOWN] == self.script_count else 1
+        return (
+            0 if self.passing_count_without_strict_warnings + self.counts[CountedAs.KNOWN] == self.script_count else 1
+        )

@@ -9,13 +9,19 @@ from pathlib import Path
 from pdsuite.output.octets import printable_path
 from pdsuite.programs.program import Program, ProgramEndedError
 from pdsuite.programs.protocol import LONGEST_CAUSE, LONGEST_LINE, SETTLE, Cause, UnexpectedAnswerError
-from pdsuite.programs.protocol import add_command, parse_causes, parse_new_rows, rows_before_total, script_name
+from pdsuite.programs.protocol import (
+    add_command,
+    parse_causes_by_script_and_line,
+    parse_new_rows,
+    rows_before_total,
+    script_name_of_number,
+)
 from pdsuite.programs.verdict import Row, Verdict
-from pdsuite.run.batches import Batch, Piece, SuiteScript, make_outcome
-from pdsuite.run.explainer import with_explanation
+from pdsuite.run.batches import Batch, Piece, SuiteScript, make_outcome_with_row_line
+from pdsuite.run.explainer import outcome_explained_by_cause
 from pdsuite.run.outcomes import ScriptOutcome
 from pdsuite.scripts.settings import Settings, settings_as_toml
-from pdsuite.scripts.text import ScriptText, UnfitTextError, make_text, read_text
+from pdsuite.scripts.text import ScriptText, UnfitTextError, make_newline_ended_text_within_limits, read_text
 from pdsuite.signals import Stop
 
 Start = Callable[[Settings], Program]
@@ -77,25 +83,25 @@ def starter_with_options(program: Path, options: Sequence[str], cache: int, stop
     return start
 
 
-def load_script_text(script: SuiteScript) -> ScriptText | str:
+def load_script_text_or_fault(script: SuiteScript) -> ScriptText | str:
     """The text that is in the script's file, or why it can't be run."""
     if script.fault:
         return script.fault
     try:
-        return read_text(script.path) if script.held is None else make_text(script.held)
+        return read_text(script.path) if script.held is None else make_newline_ended_text_within_limits(script.held)
     except UnfitTextError as unfit:
         return str(unfit)
 
 
 def run_batch(
-    batch: Batch, start: Start, load_text: LoadText = load_script_text, plain_start: Start | None = None
+    batch: Batch, start: Start, load_text: LoadText = load_script_text_or_fault, plain_start: Start | None = None
 ) -> Generator[Step, None, None]:
-    """Has a batch settled, as `run_batch_steps` does it, and waits for its programs."""
-    with closing(run_batch_steps(batch, start, load_text, plain_start)) as steps:
-        yield from _waiting_for_programs(steps)
+    """Has a batch settled, as `run_batch_yielding_waits_and_restarts` does it, and waits for its programs."""
+    with closing(run_batch_yielding_waits_and_restarts(batch, start, load_text, plain_start)) as steps:
+        yield from _wait_for_programs_and_yield_steps(steps)
 
 
-def _waiting_for_programs(steps: Iterable[Step | Program]) -> Iterator[Step]:
+def _wait_for_programs_and_yield_steps(steps: Iterable[Step | Program]) -> Iterator[Step]:
     for step in steps:
         if isinstance(step, Program):
             step.wait_until_ready()
@@ -103,8 +109,8 @@ def _waiting_for_programs(steps: Iterable[Step | Program]) -> Iterator[Step]:
             yield step
 
 
-def run_batch_steps(
-    batch: Batch, start: Start, load_text: LoadText = load_script_text, plain_start: Start | None = None
+def run_batch_yielding_waits_and_restarts(
+    batch: Batch, start: Start, load_text: LoadText = load_script_text_or_fault, plain_start: Start | None = None
 ) -> Generator[Step | Program, None, None]:
     """Has a batch settled, and gives way with its program where that is to be waited for.
 
@@ -117,25 +123,31 @@ def run_batch_steps(
     while left:
         try:
             with start(batch.settings) as program:
-                yield from _settle_pieces(program, left, load_text)
+                yield from _run_and_pop_pieces_in_program(program, left, load_text)
         except ProgramEndedError as end:
             piece = left.popleft()
             if len(piece) == 1 and piece[0].index in ended:
-                yield from _settle_without_explanation(piece, batch.settings, plain_start, load_text, str(end))
+                yield from _run_piece_unexplained_or_yield_error(
+                    piece, batch.settings, plain_start, load_text, str(end)
+                )
                 continue
             ended.update(script.index for script in piece)
             left.extendleft((script,) for script in reversed(piece))
             yield Restart(piece[0], str(end))
 
 
-def _settle_without_explanation(
+def _run_piece_unexplained_or_yield_error(
     piece: Piece, settings: Settings, plain_start: Start | None, load_text: LoadText, reason: str
 ) -> Iterator[Step]:
     """Has a script settled on which programs end that explain it."""
     if plain_start is not None:
         try:
             with plain_start(settings) as program:
-                steps = list(_waiting_for_programs(_settle_pieces(program, deque([piece]), load_text)))
+                steps = list(
+                    _wait_for_programs_and_yield_steps(
+                        _run_and_pop_pieces_in_program(program, deque([piece]), load_text)
+                    )
+                )
         except ProgramEndedError as end:
             reason = str(end)
         else:
@@ -145,7 +157,9 @@ def _settle_without_explanation(
     yield error_piece(piece, reason)
 
 
-def _settle_pieces(program: Program, left: deque[Piece], load_text: LoadText) -> Iterator[SettledPiece | Program]:
+def _run_and_pop_pieces_in_program(
+    program: Program, left: deque[Piece], load_text: LoadText
+) -> Iterator[SettledPiece | Program]:
     """Has one piece after another settled by this program; each is taken from `left` once it is."""
     before = b""
     count = 0
@@ -155,27 +169,31 @@ def _settle_pieces(program: Program, left: deque[Piece], load_text: LoadText) ->
         rows: list[Row] = []
         causes: dict[int, Cause] = {}
         if texts:
-            names = [script_name(count + number) for number in range(len(texts))]
+            names = [script_name_of_number(count + number) for number in range(len(texts))]
             count += len(texts)
             commands = b"".join(map(add_command, names, texts.values())) + SETTLE
             longest = LONGEST_LINE * (count + 2)
-            answer, errors = yield from program.query_steps(commands, longest, LONGEST_CAUSE * (len(texts) + 1))
-            rows, causes = _read_rows_or_end(answer, errors, before, dict(zip(names, texts)), count)
+            answer, errors = yield from program.query_with_errors_as_generator(
+                commands, longest, LONGEST_CAUSE * (len(texts) + 1)
+            )
+            rows, causes = _rows_and_causes_or_raise_program_ended(
+                answer, errors, before, dict(zip(names, texts)), count
+            )
             before = rows_before_total(answer)
         left.popleft()
-        yield make_settled_piece(loaded, rows, causes)
+        yield make_settled_piece_of_scripts(loaded, rows, causes)
 
 
-def _read_rows_or_end(
+def _rows_and_causes_or_raise_program_ended(
     answer: bytes, errors: bytes, before: bytes, places: Mapping[bytes, int], count: int
 ) -> tuple[list[Row], dict[int, Cause]]:
     try:
-        return read_rows_and_causes(answer, errors, before, places, count)
+        return parse_rows_and_causes_of_same_line(answer, errors, before, places, count)
     except UnexpectedAnswerError as unexpected:
         raise ProgramEndedError(f"pdregress: {unexpected}") from unexpected
 
 
-def read_rows_and_causes(
+def parse_rows_and_causes_of_same_line(
     answer: bytes, errors: bytes, before: bytes, places: Mapping[bytes, int], count: int
 ) -> tuple[list[Row], dict[int, Cause]]:
     """The rows of scripts, whose places are given by their names, and explanations by keys, by their places.
@@ -184,11 +202,11 @@ def read_rows_and_causes(
     """
     rows = parse_new_rows(answer, before, list(places), count)
     lines = {name: row.line for name, row in zip(places, rows)}
-    causes = parse_causes(errors).items()
+    causes = parse_causes_by_script_and_line(errors).items()
     return rows, {places[name]: it for (name, line), it in causes if name in lines and lines[name] in (None, line)}
 
 
-def make_settled_piece(
+def make_settled_piece_of_scripts(
     loaded: Sequence[tuple[SuiteScript, ScriptText | str]], rows: Iterable[Row], causes: Mapping[int, Cause]
 ) -> SettledPiece:
     """A piece of scripts with their texts, or why they couldn't be run; those that could have these rows."""
@@ -206,8 +224,8 @@ def make_settled_piece(
 def _explained_outcome(
     script: SuiteScript, text: ScriptText, row: Row, cause: Cause | None
 ) -> tuple[SuiteScript, ScriptOutcome]:
-    line = None if row.line is None else text.line(row.line)
-    return script, with_explanation(make_outcome(script, row, line), cause, text)
+    line = None if row.line is None else text.find_line_by_number(row.line)
+    return script, outcome_explained_by_cause(make_outcome_with_row_line(script, row, line), cause, text)
 
 
 def error_piece(piece: Piece, reason: str) -> SettledPiece:
@@ -216,4 +234,4 @@ def error_piece(piece: Piece, reason: str) -> SettledPiece:
 
 
 def _error_outcome(script: SuiteScript, reason: str) -> tuple[SuiteScript, ScriptOutcome]:
-    return script, make_outcome(script, Row(Verdict.ERROR, word=reason))
+    return script, make_outcome_with_row_line(script, Row(Verdict.ERROR, word=reason))

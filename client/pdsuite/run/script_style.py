@@ -11,14 +11,16 @@ _COMMENT = re.compile(rb"//[^\n]*|/\*.*?\*/", re.DOTALL)
 _WITH_WINDOW = re.compile(rb">\s*[A-Z.-]+\s*\d+:\d+\s*\(\s*\d+\s*\)\s*(?:ack\s*\d+\s*)?win\s*\d")
 
 
-def inserts_in_script_style(lines: tuple[str, ...], text: bytes) -> tuple[str, ...]:
+def drop_insert_windows_if_script_has_none(lines: tuple[str, ...], text: bytes) -> tuple[str, ...]:
     """The lines about a script, with each packet to be put into it as the script writes those that leave."""
     if not any(it.startswith(_MEND) for it in lines):
         return lines
     has_windows = _WITH_WINDOW.search(_COMMENT.sub(b" ", text)) is not None
-    return tuple(_restyle_insert(it, has_windows) if it.startswith(_MEND) else it for it in lines)
+    return tuple(
+        _collapse_blanks_and_maybe_drop_window(it, has_windows) if it.startswith(_MEND) else it for it in lines
+    )
 
 
-def _restyle_insert(line: str, has_windows: bool) -> str:
+def _collapse_blanks_and_maybe_drop_window(line: str, has_windows: bool) -> str:
     line = _BLANKS.sub(" ", line)
     return line if has_windows else _WINDOW.sub("", line, 1)

@@ -15,14 +15,14 @@ from pdsuite.run.explainer import EXPLAIN_OPTIONS
 from pdsuite.run.run_batches import (
     SettledPiece,
     Step,
-    load_script_text,
-    make_settled_piece,
+    load_script_text_or_fault,
+    make_settled_piece_of_scripts,
     run_batch,
     starter_with_options,
     starter_without_explanations,
 )
 from pdsuite.scripts.settings import Settings
-from pdsuite.scripts.text import ScriptText, make_text
+from pdsuite.scripts.text import ScriptText, make_newline_ended_text_within_limits
 from pdsuite.signals import Stop
 
 # The settings, and pieces of scripts: of each its path and its text, or why it can't be run.
@@ -37,24 +37,26 @@ PlainAnswer = list[str | list[PlainRow]] | str
 _INSTALLED = Path("/usr/bin")
 
 
-def pack_batch(batch: Batch) -> PackedBatch:
+def pack_batch_with_current_texts(batch: Batch) -> PackedBatch:
     """A batch with the texts that are in the files now."""
-    return batch.settings, [[(script.path, _load_plain_text(script)) for script in piece] for piece in batch.pieces]
+    return batch.settings, [
+        [(script.path, _script_octets_or_load_fault(script)) for script in piece] for piece in batch.pieces
+    ]
 
 
-def program_fault(wanted: WantedProgram) -> str:
+def why_wanted_program_unusable_or_empty(wanted: WantedProgram) -> str:
     """Why this machine can't be used, by its program; empty if it can."""
     try:
-        _find_wanted_program(*wanted)
+        _require_program_of_wanted_sha256(*wanted)
     except Fault as fault:
         return str(fault)
     return ""
 
 
-def run_packed_batch(packed_batch: PackedBatch, wanted: WantedProgram) -> PlainAnswer:
+def run_packed_batch_or_program_fault(packed_batch: PackedBatch, wanted: WantedProgram) -> PlainAnswer:
     """Settles a batch on the machine where this is called, if its program is that one."""
     try:
-        program = _find_wanted_program(*wanted)
+        program = _require_program_of_wanted_sha256(*wanted)
     except Fault as fault:
         return str(fault)
     batch, texts = _unpack_batch(packed_batch)
@@ -64,11 +66,11 @@ def run_packed_batch(packed_batch: PackedBatch, wanted: WantedProgram) -> PlainA
             program, 0, 1, stop
         )
         for step in run_batch(batch, start, lambda it: texts[it.index], plain_start):
-            answer.append(_plain_step(step))
+            answer.append(_step_as_plain_rows_or_message(step))
     return answer
 
 
-def steps_from_answer(
+def rebuild_steps_and_note_messages(
     batch: Batch, packed_batch: PackedBatch, answer: list[str | list[PlainRow]], note: Callable[[str], None]
 ) -> Iterator[Step]:
     """The steps that an answer has of a batch; `note` gets what was printed on the way."""
@@ -77,14 +79,16 @@ def steps_from_answer(
         if isinstance(it, str):
             note(it)
             continue
-        piece = [(script, _text_from_plain(text)) for script, text in islice(sent, len(it))]
+        piece = [(script, _unpack_script_text_or_fault(text)) for script, text in islice(sent, len(it))]
         answered = [(script, row) for (script, text), row in zip(piece, it) if isinstance(text, ScriptText)]
         rows = (Row(Verdict(verdict), number, word) for _, (verdict, number, word, _) in answered)
-        yield make_settled_piece(piece, rows, {script.index: row[3] for script, row in answered if row[3] is not None})
+        yield make_settled_piece_of_scripts(
+            piece, rows, {script.index: row[3] for script, row in answered if row[3] is not None}
+        )
 
 
-def _load_plain_text(script: SuiteScript) -> bytes | str:
-    text = load_script_text(script)
+def _script_octets_or_load_fault(script: SuiteScript) -> bytes | str:
+    text = load_script_text_or_fault(script)
     return text.octets if isinstance(text, ScriptText) else text
 
 
@@ -95,22 +99,22 @@ def _unpack_batch(packed_batch: PackedBatch) -> tuple[Batch, dict[int, ScriptTex
     for each in plain:
         first = len(texts)
         pieces.append(tuple(SuiteScript(index, path, settings) for index, (path, _) in enumerate(each, first)))
-        texts.update((index, _text_from_plain(it)) for index, (_, it) in enumerate(each, first))
+        texts.update((index, _unpack_script_text_or_fault(it)) for index, (_, it) in enumerate(each, first))
     return Batch(settings, tuple(pieces)), texts
 
 
-def _text_from_plain(plain: bytes | str) -> ScriptText | str:
-    return make_text(plain) if isinstance(plain, bytes) else plain
+def _unpack_script_text_or_fault(plain: bytes | str) -> ScriptText | str:
+    return make_newline_ended_text_within_limits(plain) if isinstance(plain, bytes) else plain
 
 
-def _plain_step(step: Step) -> str | list[PlainRow]:
+def _step_as_plain_rows_or_message(step: Step) -> str | list[PlainRow]:
     if not isinstance(step, SettledPiece):
         return str(step)
     rows = [(script.index, outcome.row) for script, outcome in step.outcomes]
     return [(row.verdict.value, row.number, row.word, step.causes.get(index)) for index, row in rows]
 
 
-def _find_wanted_program(path: str, wanted: str) -> Path:
+def _require_program_of_wanted_sha256(path: str, wanted: str) -> Path:
     """The program of this machine, where it is the one that is wanted."""
     folder = os.environ.get(PROGRAMS_VARIABLE)
     places = [Path(folder, REGRESS)] if folder else [Path(path), _INSTALLED / REGRESS]

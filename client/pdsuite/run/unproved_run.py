@@ -12,16 +12,22 @@ from pdsuite.programs.protocol import (
     Cause,
     UnexpectedAnswerError,
     add_command,
-    script_name,
+    script_name_of_number,
     set_and_show_commands,
     set_command,
 )
 from pdsuite.programs.recorder import Recording, recording_cases, recording_from_answer
-from pdsuite.programs.refusals import Refusal, distinct_key_values, refusals_in_answer
+from pdsuite.programs.refusals import Refusal, distinct_key_value_pairs, refusals_in_answer
 from pdsuite.programs.unproved_batch import ProgramCases, build_and_run_cases
 from pdsuite.programs.verdict import Row, Verdict
 from pdsuite.run.batches import Batch, SuiteScript
-from pdsuite.run.run_batches import SettledPiece, Step, load_script_text, make_settled_piece, read_rows_and_causes
+from pdsuite.run.run_batches import (
+    SettledPiece,
+    Step,
+    load_script_text_or_fault,
+    make_settled_piece_of_scripts,
+    parse_rows_and_causes_of_same_line,
+)
 from pdsuite.scripts.config import Claim
 from pdsuite.scripts.settings import Settings, set_command_words
 from pdsuite.scripts.text import ScriptText
@@ -46,14 +52,16 @@ class StartBatch:
         """How many octets are expected to be printed at most."""
         return sum(_most_output_octets(text) for _, text in self.scripts)
 
-    def script_names(self) -> list[bytes]:
+    def numbered_script_names(self) -> list[bytes]:
         """The names of the scripts in its commands."""
-        return [script_name(number) for number in range(len(self.scripts))]
+        return [script_name_of_number(number) for number in range(len(self.scripts))]
 
     def input_commands(self) -> bytes:
         """The commands that set the settings and add the scripts."""
         sets = [set_command(*set_command_words(key, value)) for key, value in self.settings]
-        return b"".join(sets + [add_command(name, text) for name, (_, text) in zip(self.script_names(), self.scripts)])
+        return b"".join(
+            sets + [add_command(name, text) for name, (_, text) in zip(self.numbered_script_names(), self.scripts)]
+        )
 
 
 @dataclass(frozen=True)
@@ -83,52 +91,56 @@ class UnprovedPlan:
 
     @property
     def all_start_batches(self) -> list[StartBatch]:
-        return [it for piece in self.pieces for it in split_into_start_batches(piece)]
+        return [it for piece in self.pieces for it in runnable_scripts_in_output_sized_batches(piece)]
 
     @property
     def scripts_to_record(self) -> list[tuple[SuiteScript, ScriptText]]:
         """The scripts that are recorded."""
         return [one for it in self.all_start_batches for one in it.scripts] if self.records else []
 
-    def program_cases(self, tree: Path) -> list[ProgramCases]:
+    def cases_for_claims_batches_and_recordings(self, tree: Path) -> list[ProgramCases]:
         """The starts of a tree's programs: one queries the claims, the others run the batches and record."""
         settings_case = Case(
-            (), b"".join(set_and_show_commands(*it) for it in distinct_key_values(self.claims)), is_alone=True
+            (), b"".join(set_and_show_commands(*it) for it in distinct_key_value_pairs(self.claims)), is_alone=True
         )
         cases = cases_of_batches(self.all_start_batches)
         return [
-            self.as_regress_cases(tree, [settings_case, *cases]),
+            self.program_cases_with_explanations(tree, [settings_case, *cases]),
             recording_cases(tree, map(_settings_and_octets, self.scripts_to_record)),
         ]
 
-    def as_regress_cases(self, tree: Path, cases: Sequence[Case]) -> ProgramCases:
+    def program_cases_with_explanations(self, tree: Path, cases: Sequence[Case]) -> ProgramCases:
         """The starts of a tree's program, which explains."""
         return ProgramCases(tree, REGRESS, self.explain_options, tuple(cases))
 
 
-def make_plan(
+def load_scripts_and_make_plan(
     batches: Iterable[Batch], claims: Iterable[Claim], explain_options: tuple[str, ...], records: bool = False
 ) -> UnprovedPlan:
     """What is to be run of these batches, whose scripts are read."""
-    pieces = [[(script, load_script_text(script)) for script in piece] for batch in batches for piece in batch.pieces]
+    pieces = [
+        [(script, load_script_text_or_fault(script)) for script in piece] for batch in batches for piece in batch.pieces
+    ]
     return UnprovedPlan(list(claims), pieces, explain_options, records)
 
 
-def run_plan(plan: UnprovedPlan, tree: Path, stop: Stop, note: Callable[[str], None]) -> UnprovedResults:
+def build_and_run_plan(plan: UnprovedPlan, tree: Path, stop: Stop, note: Callable[[str], None]) -> UnprovedResults:
     """What comes of a plan, after one build or two."""
-    return results_from_answers(plan, build_and_run_cases(plan.program_cases(tree), stop), tree, stop, note)
+    return results_after_rerunning_unanswered(
+        plan, build_and_run_cases(plan.cases_for_claims_batches_and_recordings(tree), stop), tree, stop, note
+    )
 
 
-def results_from_answers(
+def results_after_rerunning_unanswered(
     plan: UnprovedPlan, answers: Sequence[Sequence[ProgramAnswer]], tree: Path, stop: Stop, note: Callable[[str], None]
 ) -> UnprovedResults:
     """What the answers say. Where a start ends early, a second build starts its scripts one by one."""
     (settings_answers, *explained), recorded = answers
-    if refused := _refusals_or_fault(plan.claims, settings_answers):
+    if refused := _claim_refusals_or_raise_fault(plan.claims, settings_answers):
         return UnprovedResults(refused)
     results = _BatchResults(plan, explained, recorded)
     results.rerun_unanswered_alone(tree, stop, note)
-    return UnprovedResults([], [results.settle_piece(piece) for piece in plan.pieces], results.recordings)
+    return UnprovedResults([], [results.settled_piece_from_rows(piece) for piece in plan.pieces], results.recordings)
 
 
 class _BatchResults:
@@ -157,7 +169,7 @@ class _BatchResults:
             return
         cases = [replace(it, is_alone=True) for it in cases_of_batches(singles)]
         builds = [
-            self._plan.as_regress_cases(tree, cases),
+            self._plan.program_cases_with_explanations(tree, cases),
             recording_cases(tree, map(_settings_and_octets, scripts), is_alone=True),
         ]
         explained, recorded = build_and_run_cases(builds, stop)
@@ -167,11 +179,11 @@ class _BatchResults:
             script.index: recording_from_answer(answer) for (script, _), answer in zip(scripts, recorded)
         }
 
-    def settle_piece(self, piece: Sequence[tuple[SuiteScript, ScriptText | str]]) -> SettledPiece:
+    def settled_piece_from_rows(self, piece: Sequence[tuple[SuiteScript, ScriptText | str]]) -> SettledPiece:
         """What came of a piece."""
         rows = {script.index: self._rows[script.index] for script, text in piece if isinstance(text, ScriptText)}
         causes = {index: cause for index, (_, cause) in rows.items() if cause is not None}
-        return make_settled_piece(piece, [row for row, _ in rows.values()], causes)
+        return make_settled_piece_of_scripts(piece, [row for row, _ in rows.values()], causes)
 
 
 def _settings_and_octets(each: tuple[SuiteScript, ScriptText]) -> tuple[Settings, bytes]:
@@ -179,7 +191,7 @@ def _settings_and_octets(each: tuple[SuiteScript, ScriptText]) -> tuple[Settings
     return script.settings, text.octets
 
 
-def split_into_start_batches(piece: Iterable[tuple[SuiteScript, ScriptText | str]]) -> list[StartBatch]:
+def runnable_scripts_in_output_sized_batches(piece: Iterable[tuple[SuiteScript, ScriptText | str]]) -> list[StartBatch]:
     """The scripts of a piece that can be run, in batches of which no great output is expected."""
     batches: list[list[tuple[SuiteScript, ScriptText]]] = []
     room = 0
@@ -211,16 +223,18 @@ def rows_and_unanswered_batches(
     unanswered = []
     for batch, answer in zip(batches, answers):
         try:
-            explained |= explained_rows(batch, answer)
+            explained |= parse_explained_rows_of_batch(batch, answer)
         except UnexpectedAnswerError as unexpected:
             unanswered.append((batch, f"{REGRESS}: {unexpected}"))
     return explained, unanswered
 
 
-def explained_rows(batch: StartBatch, answer: ProgramAnswer) -> ExplainedRows:
+def parse_explained_rows_of_batch(batch: StartBatch, answer: ProgramAnswer) -> ExplainedRows:
     """The rows of the scripts of a batch, by their places, each with its explanation by keys."""
-    places = {name: script.index for name, (script, _) in zip(batch.script_names(), batch.scripts)}
-    rows, causes = read_rows_and_causes(_require_answered(answer).output, answer.errors, b"", places, len(places))
+    places = {name: script.index for name, (script, _) in zip(batch.numbered_script_names(), batch.scripts)}
+    rows, causes = parse_rows_and_causes_of_same_line(
+        _require_answered(answer).output, answer.errors, b"", places, len(places)
+    )
     return {index: (row, causes.get(index)) for index, row in zip(places.values(), rows)}
 
 
@@ -230,7 +244,7 @@ def _require_answered(answer: ProgramAnswer) -> ProgramAnswer:
     return answer
 
 
-def _refusals_or_fault(claims: Iterable[Claim], answer: ProgramAnswer) -> list[Refusal]:
+def _claim_refusals_or_raise_fault(claims: Iterable[Claim], answer: ProgramAnswer) -> list[Refusal]:
     try:
         return refusals_in_answer(claims, _require_answered(answer).output)
     except (ProgramEndedError, UnexpectedAnswerError) as end:

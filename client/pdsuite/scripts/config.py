@@ -12,9 +12,9 @@ from pdsuite.output.octets import printable_path, printable_text
 from pdsuite.scripts.defaults import refusal_help
 from pdsuite.scripts.discover import SUFFIX, ScriptFile
 from pdsuite.scripts.expectation import Expectation, can_begin_failing_row
-from pdsuite.scripts.renamed import rename_refusal
+from pdsuite.scripts.renamed import refusal_reason_if_renamed
 from pdsuite.scripts.settings import Settings, Value, sorted_settings
-from pdsuite.scripts.text import UnfitTextError, read_regular_file
+from pdsuite.scripts.text import UnfitTextError, read_regular_file_up_to_limit
 from pdsuite.scripts.toml_places import TomlPlaces, find_toml_places
 
 CONFIG_FILE = "pdsuite.toml"
@@ -53,7 +53,7 @@ class Layer:
     expected: Mapping[str, Expectation]  # the rows of scripts that are known not to pass, by their names
 
     @property
-    def place(self) -> str:
+    def file_or_option_name(self) -> str:
         """Where it stands."""
         return self.places.file
 
@@ -92,13 +92,13 @@ class SuiteConfig:
 
     def __init__(self, option: Layer, read: Callable[[Path], Layer | None] | None = None) -> None:
         self._option = option
-        self._read = read or read_layer
+        self._read = read or read_layer_if_file_exists
         self._layers: dict[str, Layer | None] = {}
         self._known: dict[str, tuple[ScriptRules, Layer]] = {}
 
     def rules_of_script(self, script: ScriptFile) -> ScriptRules:
         """What holds for a script."""
-        common, beside = self._known.get(script.folder) or self._folder_rules(script.folder)
+        common, beside = self._known.get(script.folder) or self._compute_and_cache_folder_rules(script.folder)
         own = beside.tables.get(script.name)
         if own is None:
             return common
@@ -118,42 +118,49 @@ class SuiteConfig:
         """The row that a script is known to have, if one is given."""
         return self.rules_of_script(script).expected
 
-    def read_config_files(self, folders: Iterable[str]) -> None:
+    def read_own_config_files_of_folders(self, folders: Iterable[str]) -> None:
         """Reads the files of these folders, whichever scripts they are about."""
         for folder in folders:
-            self._layer_of_folder(folder)
+            self._cached_or_read_layer_of_folder(folder)
 
-    def layers_by_folder(self) -> list[tuple[str, Layer]]:
+    def sorted_read_layers_with_folders(self) -> list[tuple[str, Layer]]:
         """The files that were read, by their folders, in the order of their places."""
         files = [(folder, it) for folder, it in self._layers.items() if it is not None]
-        return sorted(files, key=lambda it: it[1].place)
+        return sorted(files, key=lambda it: it[1].file_or_option_name)
 
-    def has_config_file(self, script: ScriptFile) -> bool:
+    def has_config_file_in_or_above_folder(self, script: ScriptFile) -> bool:
         """Whether some file is there for a script, whatever it says."""
-        return bool(self._layers_above(script.folder))
+        return bool(self._layers_from_folder_up_to_root(script.folder))
 
     def all_claims(self) -> Iterator[Claim]:
         """What `--settings` and the files that were read say, whichever scripts it is about."""
-        yield from claims_of_layers([self._option, *(layer for _, layer in self.layers_by_folder())])
+        yield from every_claim_of_layers(
+            [self._option, *(layer for _, layer in self.sorted_read_layers_with_folders())]
+        )
 
-    def _folder_rules(self, folder: str) -> tuple[ScriptRules, Layer]:
+    def _compute_and_cache_folder_rules(self, folder: str) -> tuple[ScriptRules, Layer]:
         """What holds for all scripts of a folder of which the file beside them says nothing, and that file."""
-        is_strict = next((it.strict[""] for it in self._layers_above(folder) if "" in it.strict), False)
-        known = ScriptRules(self._merge_settings(folder, {}), is_strict, None), self._layer_of_folder(folder) or _EMPTY
+        is_strict = next(
+            (it.strict[""] for it in self._layers_from_folder_up_to_root(folder) if "" in it.strict), False
+        )
+        known = (
+            ScriptRules(self._merge_settings(folder, {}), is_strict, None),
+            self._cached_or_read_layer_of_folder(folder) or _EMPTY,
+        )
         self._known[folder] = known
         return known
 
     def _merge_settings(self, folder: str, own: Table) -> Settings:
         merged: dict[str, Value] = {}
-        for layer in reversed(self._layers_above(folder)):
+        for layer in reversed(self._layers_from_folder_up_to_root(folder)):
             merged.update(layer.keys)
         return sorted_settings({**merged, **own, **self._option.keys})
 
-    def _layers_above(self, folder: str) -> list[Layer]:
+    def _layers_from_folder_up_to_root(self, folder: str) -> list[Layer]:
         """The layers of a folder, the nearest first."""
         chain: list[Layer] = []
         while True:
-            layer = self._layer_of_folder(folder)
+            layer = self._cached_or_read_layer_of_folder(folder)
             if layer is not None:
                 chain.append(layer)
             above = os.path.dirname(folder)
@@ -161,7 +168,7 @@ class SuiteConfig:
                 return chain
             folder = above
 
-    def _layer_of_folder(self, folder: str) -> Layer | None:
+    def _cached_or_read_layer_of_folder(self, folder: str) -> Layer | None:
         if folder not in self._layers:
             self._layers[folder] = self._read(Path(folder, CONFIG_FILE))
         return self._layers[folder]
@@ -172,41 +179,48 @@ def parse_layer(place: str, octets: bytes) -> Layer:
     table = _parse_toml(place, octets)
     places = find_toml_places(place, octets.decode())
     _refuse_unquoted_names(places, table)
-    root = _take_truth_value(table, _ROOT, places)
+    root = _pop_optional_truth_value(table, _ROOT, places)
     tables = {name: dict(it) for name, it in table.items() if name.endswith(SUFFIX) and isinstance(it, Mapping)}
     keys = {name: it for name, it in table.items() if name not in tables}
-    strict_values = {name: _take_truth_value(it, _STRICT, places, name) for name, it in {"": keys, **tables}.items()}
+    strict_values = {
+        name: _pop_optional_truth_value(it, _STRICT, places, name) for name, it in {"": keys, **tables}.items()
+    }
     strict = {name: it for name, it in strict_values.items() if it is not None}
     _refuse_expectation_outside_tables(places, keys)
-    rows = {name: it for name, table in tables.items() if (it := _take_expectation(places, name, table)) is not None}
+    rows = {
+        name: it
+        for name, table in tables.items()
+        if (it := _pop_expectation_with_reason(places, name, table)) is not None
+    }
     return Layer(places, root or False, keys, tables, strict, rows)
 
 
-def _take_truth_value(table: dict[str, Value], key: str, places: TomlPlaces, name: str = "") -> bool | None:
+def _pop_optional_truth_value(table: dict[str, Value], key: str, places: TomlPlaces, name: str = "") -> bool | None:
     """A truth value that is the client's own, taken out of a table; a fault where it is something else."""
     value = table.pop(key, None)
     if value is None or isinstance(value, bool):
         return value
     beside = f' (["{_printable(name)}"])' if name else ""
-    raise PlacedFault(f"{places.file_and_line(name, key)}: {key}: BadValue{beside}: it takes true or false")
+    raise PlacedFault(f"{places.file_and_line_of_key(name, key)}: {key}: BadValue{beside}: it takes true or false")
 
 
-def _take_expectation(places: TomlPlaces, name: str, table: dict[str, Value]) -> Expectation | None:
+def _pop_expectation_with_reason(places: TomlPlaces, name: str, table: dict[str, Value]) -> Expectation | None:
     """The row that is expected of a script, with its reason, taken out of its table; neither stands alone."""
     row, reason = table.pop(EXPECT, None), table.pop(REASON, None)
     beside = f'(["{_printable(name)}"])'
     if row is None and reason is None:
         return None
     if reason is None:
-        raise PlacedFault(f"{places.file_and_line(name, EXPECT)}: {EXPECT}: needs a {REASON} beside it {beside}")
+        raise PlacedFault(f"{places.file_and_line_of_key(name, EXPECT)}: {EXPECT}: needs a {REASON} beside it {beside}")
     if row is None:
-        raise PlacedFault(f"{places.file_and_line(name, REASON)}: {REASON}: needs {EXPECT} beside it {beside}")
+        raise PlacedFault(f"{places.file_and_line_of_key(name, REASON)}: {REASON}: needs {EXPECT} beside it {beside}")
     if not isinstance(row, str) or not can_begin_failing_row(row):
         takes = 'it takes a row that doesn\'t pass, as "fail 12 seq", or its first words'
-        raise PlacedFault(f"{places.file_and_line(name, EXPECT)}: {EXPECT}: BadValue {beside}: {takes}")
+        raise PlacedFault(f"{places.file_and_line_of_key(name, EXPECT)}: {EXPECT}: BadValue {beside}: {takes}")
     if not isinstance(reason, str) or not reason.strip():
         raise PlacedFault(
-            f"{places.file_and_line(name, REASON)}: {REASON}: BadValue {beside}: it takes a text that isn't empty"
+            f"{places.file_and_line_of_key(name, REASON)}: {REASON}: BadValue {beside}: "
+            "it takes a text that isn't empty"
         )
     return Expectation(row, _printable(reason))
 
@@ -216,25 +230,27 @@ def _refuse_expectation_outside_tables(places: TomlPlaces, keys: Table) -> None:
     for key in (EXPECT, REASON):
         if key in keys:
             raise PlacedFault(
-                f'{places.file_and_line("", key)}: {key}: stands in no script\'s table, as ["NAME{SUFFIX}"] is'
+                f'{places.file_and_line_of_key("", key)}: {key}: stands in no script\'s table, as ["NAME{SUFFIX}"] is'
             )
 
 
 def _refuse_unquoted_names(places: TomlPlaces, table: Table) -> None:
     """Raises a fault where a script's name stands without quotes: its parts are then tables in tables."""
-    for name in _unquoted_script_names(table):
+    for name in _script_names_written_without_quotes(table):
         shown = _printable(name)
-        raise PlacedFault(f'{places.file_and_line(name)}: [{shown}]: a script\'s name stands in quotes: ["{shown}"]')
+        raise PlacedFault(
+            f'{places.file_and_line_of_key(name)}: [{shown}]: a script\'s name stands in quotes: ["{shown}"]'
+        )
 
 
-def _unquoted_script_names(table: Table, before: str = "", deepest: int = _DEEPEST) -> Iterator[str]:
+def _script_names_written_without_quotes(table: Table, before: str = "", deepest: int = _DEEPEST) -> Iterator[str]:
     """The names that aren't quoted, of so many parts at most."""
     for key, value in table.items():
         if isinstance(value, Mapping):
             if before and key == _PART:
                 yield f"{before}{key}"
             elif deepest > 1 and not key.endswith(SUFFIX):
-                yield from _unquoted_script_names(value, f"{before}{key}.", deepest - 1)
+                yield from _script_names_written_without_quotes(value, f"{before}{key}.", deepest - 1)
 
 
 def layer_of_option(text: str, option: str = OPTION) -> Layer:
@@ -247,7 +263,7 @@ def _parse_toml(place: str, octets: bytes) -> dict[str, Value]:
     try:
         return tomllib.loads(octets.decode())
     except (ValueError, RecursionError) as error:
-        words = f"no TOML: {_toml_error_reason(error, octets)}"
+        words = f"no TOML: {_toml_error_reason_with_position(error, octets)}"
         if place in _OPTIONS:
             raise Fault(f"{place}: {words}") from error
         raise PlacedFault(f"{place}:{_line_of_toml_error(error, octets)}: {words}") from error
@@ -263,7 +279,7 @@ def _line_of_toml_error(error: ValueError | RecursionError, octets: bytes) -> in
     return 1 if found is None else int(found[1])
 
 
-def _toml_error_reason(error: ValueError | RecursionError, octets: bytes) -> str:
+def _toml_error_reason_with_position(error: ValueError | RecursionError, octets: bytes) -> str:
     """Why octets are no TOML, in the words of Python where it has any for people."""
     if isinstance(error, UnicodeDecodeError):
         return f"octet 0x{octets[error.start]:02x} is no UTF-8"
@@ -275,43 +291,43 @@ def _toml_error_reason(error: ValueError | RecursionError, octets: bytes) -> str
     return _printable(str(error))
 
 
-def claims_of_layers(layers: Iterable[Layer]) -> Iterator[Claim]:
+def every_claim_of_layers(layers: Iterable[Layer]) -> Iterator[Claim]:
     """What layers say, one after another."""
     for layer in layers:
         for key, value in layer.keys.items():
-            yield Claim(layer.places.file_and_line("", key), "", key, value)
+            yield Claim(layer.places.file_and_line_of_key("", key), "", key, value)
         for name, table in layer.tables.items():
             for key, value in table.items():
-                yield Claim(layer.places.file_and_line(name, key), name, key, value)
+                yield Claim(layer.places.file_and_line_of_key(name, key), name, key, value)
 
 
 def old_name_refusals(claims: Iterable[Claim]) -> Iterator[str]:
     """The lines of claims by keys or words that have another name now, as where a program refuses them."""
     for claim in claims:
-        if (reason := rename_refusal(claim.key, claim.value)) is not None:
+        if (reason := refusal_reason_if_renamed(claim.key, claim.value)) is not None:
             yield claim.refusal_line(reason)
 
 
-def read_layer(path: Path) -> Layer | None:
+def read_layer_if_file_exists(path: Path) -> Layer | None:
     """The layer that a file holds, if it is there."""
-    octets = read_config_octets(path)
-    return None if octets is None else parse_layer(shown_place(path), octets)
+    octets = read_config_octets_if_file_exists(path)
+    return None if octets is None else parse_layer(printable_path_from_working_folder(path), octets)
 
 
-def read_config_octets(path: Path) -> bytes | None:
+def read_config_octets_if_file_exists(path: Path) -> bytes | None:
     """The octets of a file, if it is there."""
     if not os.path.lexists(path):
         return None
     try:
-        octets = read_regular_file(path, LONGEST + 1)
+        octets = read_regular_file_up_to_limit(path, LONGEST + 1)
     except UnfitTextError as unfit:
-        raise Fault(f"{shown_place(path)}: {unfit}") from unfit
+        raise Fault(f"{printable_path_from_working_folder(path)}: {unfit}") from unfit
     if len(octets) > LONGEST:
-        raise Fault(f"{shown_place(path)}: more than {LONGEST:,} octets")
+        raise Fault(f"{printable_path_from_working_folder(path)}: more than {LONGEST:,} octets")
     return octets
 
 
-def shown_place(path: Path) -> str:
+def printable_path_from_working_folder(path: Path) -> str:
     """Where a file stands, as people see it."""
     return printable_path(_relative_if_below_here(path))
 

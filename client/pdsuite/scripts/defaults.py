@@ -19,7 +19,7 @@ class Number:
     unit: str
 
     @property
-    def accepted_values(self) -> str:
+    def accepted_values_text(self) -> str:
         """What it takes, for people."""
         return f"{self.least:,} to {self.most:,} {self.unit}"
 
@@ -32,7 +32,7 @@ class Word:
     words: tuple[Value, ...] = (True, False)
 
     @property
-    def accepted_values(self) -> str:
+    def accepted_values_text(self) -> str:
         """What it takes, for people."""
         return " or ".join(map(value_as_toml, self.words))
 
@@ -60,13 +60,13 @@ KEYS: dict[str, Number | Word] = {
 DEFAULTS: dict[str, Value] = {key: it.default for key, it in KEYS.items()}
 
 
-def can_switch_settings(old: Settings, new: Settings) -> bool:
+def has_default_for_each_dropped_setting(old: Settings, new: Settings) -> bool:
     """Whether a run with the old settings can be given the new ones: of each key that goes the default is known."""
     after = dict(new)
     return all(key in after or key in DEFAULTS for key, _ in old)
 
 
-def changed_settings(old: Settings, new: Settings) -> Iterator[tuple[str, Value]]:
+def settings_changed_between(old: Settings, new: Settings) -> Iterator[tuple[str, Value]]:
     """The keys whose value changes, each with its new one: the default for a key that goes."""
     before, after = {**DEFAULTS, **dict(old)}, {**DEFAULTS, **dict(new)}
     for key in sorted(after):
@@ -95,7 +95,7 @@ def refusal_help(key: str, value: Value, reason: str, others: Iterable[str] = ()
     """What helps against a refusal of a key or its value; `others` are the client's own keys in that place."""
     name = new_name_hint(key, value)
     if reason == BAD_VALUE and key in KEYS:
-        takes = f"it takes {KEYS[key].accepted_values}"
+        takes = f"it takes {KEYS[key].accepted_values_text}"
         return f"{takes}; {name}" if name else takes + (", without quotes" if _is_needlessly_quoted(key, value) else "")
     if reason != UNKNOWN_KEY or key in KEYS:
         return None

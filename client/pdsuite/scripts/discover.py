@@ -43,20 +43,20 @@ def find_scripts(paths: Iterable[Path], only: Sequence[str], stop: Stop) -> list
 def find_scripts_and_folders(paths: Iterable[Path], only: Sequence[str], stop: Stop) -> FoundScripts:
     """The same scripts, and the folders in which one that comes would be found."""
     folders: set[str] = set()
-    found = sorted(_scripts_at_paths(paths, folders, stop), key=lambda it: os.fsencode(it.path))
+    found = sorted(_find_scripts_or_faults_noting_folders(paths, folders, stop), key=lambda it: os.fsencode(it.path))
     first: dict[tuple[str, str], ScriptFile] = {}
     for it in found:
-        if it.fault or not only or any(fits_pattern(it.path, pattern) for pattern in only):
+        if it.fault or not only or any(does_path_or_name_fit_pattern(it.path, pattern) for pattern in only):
             first.setdefault((it.folder, it.name), it)
     return FoundScripts(list(first.values()), folders)
 
 
-def fits_pattern(path: str, pattern: str) -> bool:
+def does_path_or_name_fit_pattern(path: str, pattern: str) -> bool:
     """Whether a pattern fits a path, or the last name in it."""
     return fnmatchcase(path, pattern) or fnmatchcase(os.path.basename(path), pattern)
 
 
-def _scripts_at_paths(paths: Iterable[Path], looked: set[str], stop: Stop) -> Iterator[ScriptFile]:
+def _find_scripts_or_faults_noting_folders(paths: Iterable[Path], looked: set[str], stop: Stop) -> Iterator[ScriptFile]:
     for path in paths:
         try:
             is_folder = path.is_dir()
@@ -65,14 +65,14 @@ def _scripts_at_paths(paths: Iterable[Path], looked: set[str], stop: Stop) -> It
             yield _unreadable_script(str(path), error)
             continue
         if is_folder:
-            yield from _scripts_in_folder(path, looked, stop)
+            yield from _find_unsorted_scripts_noting_folders(path, looked, stop)
         else:
-            found = _script_file(str(path))
+            found = _make_script_file_at_real_path(str(path))
             looked.add(found.folder)
             yield found
 
 
-def _scripts_in_folder(top: Path, looked: set[str], stop: Stop) -> Iterator[ScriptFile]:
+def _find_unsorted_scripts_noting_folders(top: Path, looked: set[str], stop: Stop) -> Iterator[ScriptFile]:
     """The scripts in a folder and below it; links to folders and hidden names are left out."""
     before = "" if str(top) == os.curdir else os.path.join(top, "")
     folders = [(before, os.path.realpath(top))]
@@ -91,12 +91,12 @@ def _scripts_in_folder(top: Path, looked: set[str], stop: Stop) -> Iterator[Scri
                     elif name.endswith(SUFFIX) and not entry.is_symlink():
                         yield ScriptFile(before + name, real, name)
                     elif name.endswith(SUFFIX) and not os.path.isdir(entry.path):
-                        yield _script_file(before + name)
+                        yield _make_script_file_at_real_path(before + name)
         except OSError as error:
             yield _unreadable_script(before.rstrip("/") or before, error)
 
 
-def _script_file(path: str) -> ScriptFile:
+def _make_script_file_at_real_path(path: str) -> ScriptFile:
     folder, name = os.path.split(os.path.realpath(path))
     return ScriptFile(path, folder, name)
 

@@ -17,7 +17,7 @@ class Expectation:
     row: str
     reason: str
 
-    def fits_row(self, row: str) -> bool:
+    def is_beginning_of_row(self, row: str) -> bool:
         """Whether a row, as the program says it without the script's name, has these words first."""
         return row.startswith(self.row) and row[len(self.row) : len(self.row) + 1] in _ENDS
 

@@ -24,7 +24,7 @@ class FileDiff:
         return signs.count("+"), signs.count("-")
 
 
-def match_line_ends(old: bytes, recording: bytes) -> bytes:
+def give_recording_line_ends_of_file(old: bytes, recording: bytes) -> bytes:
     """A recording with the ends of lines that a file has, and with no newline after the last line where it has none."""
     newlines = old.count(b"\n")
     if newlines and newlines == old.count(b"\r\n"):

@@ -21,31 +21,31 @@ WORDS: Mapping[str, Mapping[str, str]] = {
 }
 
 
-def rename_refusal(key: str, value: Value) -> str | None:
+def refusal_reason_if_renamed(key: str, value: Value) -> str | None:
     """Why the program refuses a key or a value that has another name now; None of all others."""
     if key in KEYS:
         return UNKNOWN_KEY
-    return BAD_VALUE if _new_word(key, value) else None
+    return BAD_VALUE if _find_new_word(key, value) else None
 
 
 def new_name_hint(key: str, value: Value) -> str | None:
     """What to write in place of a key, of its value or of both, in words; None where neither has another name."""
-    name, word = KEYS.get(key), _new_word(KEYS.get(key, key), value)
+    name, word = KEYS.get(key), _find_new_word(KEYS.get(key, key), value)
     parts = [f"its name is {name}"] if name else []
     return " and ".join([*parts, *([f'the word for "{value}" is "{word}"'] if word else [])]) or None
 
 
-def _new_word(key: str, value: Value) -> str | None:
+def _find_new_word(key: str, value: Value) -> str | None:
     """The word for an old one."""
     return WORDS.get(key, {}).get(value) if isinstance(value, str) else None
 
 
-def old_name_in_words(key: str) -> str:
+def old_setting_name_and_words_text(key: str) -> str:
     """The old name of a setting, with the old word for each word that it takes."""
-    words = {word: old_word(key, word) for word in WORDS.get(key, {}).values()}
+    words = {word: old_word_or_same_value(key, word) for word in WORDS.get(key, {}).values()}
     return "".join([OLD_KEYS[key], *(f', with "{old}" for "{word}"' for word, old in words.items())])
 
 
-def old_word(key: str, value: Value) -> Value:
+def old_word_or_same_value(key: str, value: Value) -> Value:
     """The old word for a value of a setting, the first where it had several."""
     return next((old for old, word in WORDS.get(key, {}).items() if word == value), value)

@@ -22,7 +22,7 @@ class Shard:
         return f"{self.number}/{self.count}"
 
 
-def parse_shard(words: str) -> Shard | None:
+def parse_shard_if_valid(words: str) -> Shard | None:
     """The shard that is written as K/N, where there can be one."""
     found = _WORDS.fullmatch(words)
     shard = Shard(int(found[1]), int(found[2])) if found else None
@@ -47,12 +47,12 @@ def balance_by_octets(octets: Mapping[str, int], count: int) -> list[list[str]]:
 def scripts_of_shard(found: Sequence[ScriptFile], shard: Shard) -> list[ScriptFile]:
     """The scripts of a shard, in the order in which all were found."""
     names = [os.path.abspath(it.path) for it in found]
-    each = balance_by_octets({name: _file_size(it) for name, it in zip(names, found)}, shard.count)
+    each = balance_by_octets({name: _file_size_or_zero(it) for name, it in zip(names, found)}, shard.count)
     chosen = set(each[shard.number - 1]) if shard.number <= len(each) else set()
     return [it for name, it in zip(names, found) if name in chosen]
 
 
-def _file_size(found: ScriptFile) -> int:
+def _file_size_or_zero(found: ScriptFile) -> int:
     """The size of a script's file; of one that can't be looked at it is none."""
     try:
         return 0 if found.fault else os.stat(found.path).st_size

@@ -25,14 +25,14 @@ class ScriptText:
     octets: bytes
     lines: int
 
-    def line(self, number: int) -> bytes | None:
+    def find_line_by_number(self, number: int) -> bytes | None:
         """A line without its end; lines count from 1."""
         if not 1 <= number <= self.lines:
             return None
         return self.octets.split(b"\n", number)[number - 1].removesuffix(b"\r")
 
 
-def make_text(octets: bytes) -> ScriptText:
+def make_newline_ended_text_within_limits(octets: bytes) -> ScriptText:
     """The text of a file with these octets, where the program takes it."""
     if octets[-1:] not in (b"", b"\n"):
         octets += b"\n"
@@ -46,10 +46,10 @@ def make_text(octets: bytes) -> ScriptText:
 
 def read_text(path: str) -> ScriptText:
     """The text of a script's file."""
-    return make_text(read_regular_file(path, LONGEST_FILE + 1))
+    return make_newline_ended_text_within_limits(read_regular_file_up_to_limit(path, LONGEST_FILE + 1))
 
 
-def read_regular_file(path: str | Path, most: int) -> bytes:
+def read_regular_file_up_to_limit(path: str | Path, most: int) -> bytes:
     """The first octets of a file, at most so many; only of a regular one, since others can block."""
     try:
         descriptor = os.open(path, _FLAGS)
@@ -62,14 +62,14 @@ def read_regular_file(path: str | Path, most: int) -> bytes:
         octets = os.read(descriptor, most)
         if len(octets) == found.st_size:
             return octets
-        return octets + _read_up_to(descriptor, most - len(octets))
+        return octets + _read_at_most_octets(descriptor, most - len(octets))
     except OSError as error:
         raise UnfitTextError(error_reason(error)) from error
     finally:
         os.close(descriptor)
 
 
-def _read_up_to(descriptor: int, most: int) -> bytes:
+def _read_at_most_octets(descriptor: int, most: int) -> bytes:
     octets = b""
     while len(octets) < most and (more := os.read(descriptor, most - len(octets))):
         octets += more

@@ -17,7 +17,7 @@ class Edit:
 
 def edit_between(old: ScriptText, new: ScriptText) -> Edit:
     """The edit that makes the new text of the old one."""
-    before, after = _split_lines(old), _split_lines(new)
+    before, after = _lines_without_ends(old), _lines_without_ends(new)
     front = _count_equal_front(zip(before, after))
     most = min(len(before), len(after)) - front
     back = min(most, _count_equal_front(zip(reversed(before), reversed(after))))
@@ -26,7 +26,7 @@ def edit_between(old: ScriptText, new: ScriptText) -> Edit:
     return Edit(front + 1, len(before) - front - back, put)
 
 
-def _split_lines(text: ScriptText) -> list[bytes]:
+def _lines_without_ends(text: ScriptText) -> list[bytes]:
     """The lines, which end at the octet 10 alone."""
     return text.octets.split(b"\n")[: text.lines]
 

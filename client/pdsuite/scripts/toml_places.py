@@ -23,47 +23,47 @@ class TomlPlaces:
     file: str
     lines: Mapping[tuple[str, str], int]
 
-    def line_of(self, table: str, key: str) -> int | None:
+    def line_of_key_or_table(self, table: str, key: str) -> int | None:
         """The line of a key in a table, or else of that table, if one has its own."""
         spots = ((table, key), (table or key, ""), ("", table))
         return next((self.lines[it] for it in spots if it in self.lines), None)
 
-    def file_and_line(self, table: str = "", key: str = "") -> str:
+    def file_and_line_of_key(self, table: str = "", key: str = "") -> str:
         """`FILE:LINE` of a key in a table, or else of that table; the file alone where neither has a line."""
-        line = self.line_of(table, key)
+        line = self.line_of_key_or_table(table, key)
         return self.file if line is None else f"{self.file}:{line}"
 
 
 def find_toml_places(file: str, text: str) -> TomlPlaces:
     """The places of a text that is TOML; of a name that stands twice the first."""
     lines: dict[tuple[str, str], int] = {}
-    for number, table, key in _tables_and_keys(text):
+    for number, table, key in _lines_of_tables_and_keys(text):
         lines.setdefault((table, key), number)
     return TomlPlaces(file, lines)
 
 
-def key_on_line(line: str) -> str | None:
+def find_key_in_toml_line(line: str) -> str | None:
     """The key that a line gives a value."""
     found = _KEY.match(line)
-    return None if found is None else _matched_name(found)
+    return None if found is None else _first_matched_group(found)
 
 
-def _tables_and_keys(text: str) -> Iterator[tuple[int, str, str]]:
+def _lines_of_tables_and_keys(text: str) -> Iterator[tuple[int, str, str]]:
     """Each line that begins a table or gives a key its value: its number, the table, and the key if it has one."""
     table = ""
-    for number, line in enumerate(_HIDING.sub(_blank_hidden, text).split("\n"), 1):
+    for number, line in enumerate(_HIDING.sub(_blank_long_string_or_comment, text).split("\n"), 1):
         if found := _TABLE.match(line):
-            table = _matched_name(found)
+            table = _first_matched_group(found)
             yield number, table, ""
         elif found := _KEY.match(line):
-            yield number, table, _matched_name(found)
+            yield number, table, _first_matched_group(found)
 
 
-def _blank_hidden(found: "re.Match[str]") -> str:
+def _blank_long_string_or_comment(found: "re.Match[str]") -> str:
     """What stands in the place of a string or comment: nothing but the newlines of one that has several lines."""
     whole = found.group()
     return "\n" * whole.count("\n") if whole.startswith((*_LONG, "#")) else whole
 
 
-def _matched_name(found: "re.Match[str]") -> str:
+def _first_matched_group(found: "re.Match[str]") -> str:
     return next(it for it in found.groups() if it is not None)

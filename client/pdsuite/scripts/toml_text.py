@@ -31,10 +31,10 @@ def edit_expectations(place: str, text: str, edits: TableEdits) -> str:
     end = "\r\n" if "\r\n" in text else "\n"
     new = _with_final_newline(text, end)
     if not edits.keys().isdisjoint(tables):
-        new = _edit_tables(new, edits, end)
+        new = _edit_present_tables(new, edits, end)
     for name, expected in edits.items():
         if isinstance(expected, Expectation) and name not in tables:
-            new += _new_table(name, expected, end, is_first=not new)
+            new += _render_expectation_table(name, expected, end, is_first=not new)
     _check_edit_result(place, new, tables, edits)
     return new
 
@@ -44,19 +44,19 @@ def _with_final_newline(text: str, end: str) -> str:
     return f"{text}{end}" if text and not text.endswith("\n") else text
 
 
-def _new_table(name: str, expected: Expectation, end: str, is_first: bool) -> str:
+def _render_expectation_table(name: str, expected: Expectation, end: str, is_first: bool) -> str:
     """A new table, which a blank line parts from what stands before it."""
     text = tomlkit.dumps({name: {EXPECT: expected.row, REASON: expected.reason}})
     return ("" if is_first else end) + text.replace("\n", end)
 
 
-def _edit_tables(text: str, edits: TableEdits, end: str) -> str:
+def _edit_present_tables(text: str, edits: TableEdits, end: str) -> str:
     """The text with its tables edited."""
     document = tomlkit.parse(text)
     body: list[tuple[Key | None, Item]] = []
     for key, item in document.body:
         if key is not None and key.key in edits:
-            body += _edit_table(key, item, edits[key.key], end)
+            body += _edited_table_or_its_comments(key, item, edits[key.key], end)
         else:
             body.append((key, item))
     document.body[:] = body
@@ -66,24 +66,26 @@ def _edit_tables(text: str, edits: TableEdits, end: str) -> str:
     return "" if new == end else new
 
 
-def _edit_table(key: Key, item: Item, expected: TableEdit, end: str) -> _Body:
+def _edited_table_or_its_comments(key: Key, item: Item, expected: TableEdit, end: str) -> _Body:
     """What stands in the place of a table: the table, or the comments of one that has nothing to say any more."""
     if expected is TableRemoval.TAKEN:
-        return _keep_comments([it for it in item.value.body if it[0] is None]) if isinstance(item, Table) else []
+        return (
+            _body_from_first_comment([it for it in item.value.body if it[0] is None]) if isinstance(item, Table) else []
+        )
     if isinstance(item, InlineTable):
-        _edit_inline_table(item, expected)
+        _set_or_drop_inline_expectation(item, expected)
     elif isinstance(item, Table):
         body = item.value.body
         if expected is not None:
-            _put_expectation(body, expected, end)
+            _replace_or_append_expectation_keys(body, expected, end)
         else:
             body[:] = [it for it in body if it[0] is None or it[0].key not in (EXPECT, REASON)]
             if all(it[0] is None for it in body):
-                return _keep_comments(body)
+                return _body_from_first_comment(body)
     return [(key, item)]
 
 
-def _put_expectation(body: list[tuple[Key | None, Item]], expected: Expectation, end: str) -> None:
+def _replace_or_append_expectation_keys(body: list[tuple[Key | None, Item]], expected: Expectation, end: str) -> None:
     """Puts a row and its reason in the place of others, or after the last key."""
     for name, value in ((EXPECT, expected.row), (REASON, expected.reason)):
         item = tomlkit.string(value)
@@ -99,7 +101,7 @@ def _put_expectation(body: list[tuple[Key | None, Item]], expected: Expectation,
             body[place] = (old[0], item)
 
 
-def _edit_inline_table(table: InlineTable, expected: Expectation | None) -> None:
+def _set_or_drop_inline_expectation(table: InlineTable, expected: Expectation | None) -> None:
     for name in (EXPECT, REASON):
         if expected is None:
             table.pop(name, None)
@@ -107,7 +109,7 @@ def _edit_inline_table(table: InlineTable, expected: Expectation | None) -> None
             table[name] = expected.row if name == EXPECT else expected.reason
 
 
-def _keep_comments(body: _Body) -> _Body:
+def _body_from_first_comment(body: _Body) -> _Body:
     """The comments of a table and what stands between them."""
     first = next((place for place, it in enumerate(body) if isinstance(it[1], Comment)), len(body))
     return body[first:]

@@ -16,13 +16,13 @@ _MOST = 10
 _NAMES = 1_000
 
 
-def unused_table_lines(layer: Layer, folder: str, known: Set[str] = frozenset()) -> Iterator[str]:
+def unused_table_warning_lines(layer: Layer, folder: str, known: Set[str] = frozenset()) -> Iterator[str]:
     """The lines of a file's tables whose scripts aren't in its folder; those of `known` are taken to be there."""
     lost = [name for name in unused_table_names(layer, folder) if name not in known]
     for name in lost[:_MOST]:
-        yield f'{layer.places.file_and_line(name)}: ["{printable_text(name)}"]: {_reason_unused(name, folder)}'
+        yield f'{layer.places.file_and_line_of_key(name)}: ["{printable_text(name)}"]: {_reason_unused(name, folder)}'
     if len(lost) > _MOST:
-        yield f"{layer.place}: and {len(lost) - _MOST:,} more tables of scripts that aren't there"
+        yield f"{layer.file_or_option_name}: and {len(lost) - _MOST:,} more tables of scripts that aren't there"
 
 
 def unused_table_names(layer: Layer, folder: str) -> list[str]:
@@ -30,9 +30,11 @@ def unused_table_names(layer: Layer, folder: str) -> list[str]:
     return [name for name in layer.tables if not _is_plain_file_in(name, folder)]
 
 
-def unused_table_lines_under(suite: SuiteConfig, paths: Iterable[Path]) -> list[str]:
+def unused_table_warning_lines_under_paths(suite: SuiteConfig, paths: Iterable[Path]) -> list[str]:
     """The lines of the files that lie in folders which paths name."""
-    return [line for folder, layer in layers_under_paths(suite, paths) for line in unused_table_lines(layer, folder)]
+    return [
+        line for folder, layer in layers_under_paths(suite, paths) for line in unused_table_warning_lines(layer, folder)
+    ]
 
 
 def layers_under_paths(suite: SuiteConfig, paths: Iterable[Path]) -> Iterator[tuple[str, Layer]]:
@@ -41,7 +43,7 @@ def layers_under_paths(suite: SuiteConfig, paths: Iterable[Path]) -> Iterator[tu
     What stands above these is about scripts that aren't meant.
     """
     roots = [os.path.realpath(it) for it in paths if os.path.isdir(it)]
-    for folder, layer in suite.layers_by_folder():
+    for folder, layer in suite.sorted_read_layers_with_folders():
         if any(os.path.commonpath((root, folder)) == root for root in roots):
             yield folder, layer
 
@@ -58,12 +60,12 @@ def _is_plain_file_in(name: str, folder: str) -> bool:
 def _reason_unused(name: str, folder: str) -> str:
     if os.path.islink(os.path.join(folder, name)):
         return "this is a link, and settings go by the name of the file that it leads to"
-    stem = nearest_word(name.removesuffix(SUFFIX), _neighbouring_names(name, folder))
+    stem = nearest_word(name.removesuffix(SUFFIX), _neighbouring_script_stems(name, folder))
     near = f"; the nearest is {printable_path(stem)}{SUFFIX}" if stem else ""
     return f"no script of this name is beside the file{near}; `pdsuite expect --prune` takes the table away"
 
 
-def _neighbouring_names(name: str, folder: str) -> list[str]:
+def _neighbouring_script_stems(name: str, folder: str) -> list[str]:
     """Names of scripts in a folder, without their ends: those that come before and after this one in their order."""
     try:
         names = sorted(it for it in os.listdir(folder) if it.endswith(SUFFIX))

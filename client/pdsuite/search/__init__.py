@@ -5,8 +5,8 @@ gives `Inputs`: calls and packets, each at its moment. `CandidateLists` makes th
 scenarios (`generate`) and variations of inputs that reached something new (`mutate`). A `FindTest` decides what is a
 `Find`; `shrink` makes it small, and `finished_script` a script that ends with the line that fails.
 
-    CandidateLists --lists--> play_side_by_side --> PlayedInputs --FindTest--> Find --shrink--> finished_script
-        ^                       ^                    |
+    CandidateLists --lists--> played in joint recordings --> PlayedInputs --FindTest--> Find --shrink--> finished_script
+        ^                       ^                      |
         +---- keep: what reached a new step ---------+
                                 |
                       SenderOracle: recordings, rows, explanations of one sender

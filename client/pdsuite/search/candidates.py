@@ -6,7 +6,13 @@ from dataclasses import dataclass, field
 from pdsuite.search.generate import generate_scenarios
 from pdsuite.search.mutate import CorpusEntry, InputMutator
 from pdsuite.search.scenario import Emphasis, Scenario
-from pdsuite.search.simulate import InputSteps, PlayedInputs, play_inputs, play_on_from_inputs, play_scenario
+from pdsuite.search.simulate import (
+    InputSteps,
+    PlayedInputs,
+    play_inputs_dropping_refused,
+    play_on_from_inputs,
+    play_scenario,
+)
 from pdsuite.search.states import StateStep, state_steps_in
 
 # Lists of scenarios for what goes on from some inputs are numbered from here.
@@ -38,11 +44,11 @@ class CandidateLists:
     def input_lists(self) -> Iterator[list[InputSteps]]:
         """The lists, each made when all of the one before was learnt from."""
         for number, size in enumerate(self.sizes):
-            yield list(self._make_list(number, size))
+            yield list(self._take_waiting_fresh_and_varied_inputs(number, size))
 
-    def _make_list(self, number: int, size: int) -> Iterator[InputSteps]:
+    def _take_waiting_fresh_and_varied_inputs(self, number: int, size: int) -> Iterator[InputSteps]:
         first, self._waiting = self._waiting[: 2 * size], self._waiting[2 * size :]
-        yield from (play_inputs(it.inputs) for it in first)
+        yield from (play_inputs_dropping_refused(it.inputs) for it in first)
         scenarios = generate_scenarios(self.seed, number, size, self.emphasis)
         varied = size // 2 if self._kept else 0
         yield from (play_scenario(it) for it in scenarios[varied:])
@@ -63,5 +69,11 @@ class CandidateLists:
 
     def _vary_kept_inputs(self, scenario: Scenario) -> InputSteps:
         """A variation of what is kept, which may go on by a scenario."""
-        variation = self._mutator.mutate(self._mutator.choose_entry(self._kept, _LATEST))
-        return play_on_from_inputs(scenario, variation.begun) if variation.goes_on else play_inputs(variation.begun)
+        variation = self._mutator.mutate_inputs_and_maybe_truncate(
+            self._mutator.choose_kept_entry_favouring_latest(self._kept, _LATEST)
+        )
+        return (
+            play_on_from_inputs(scenario, variation.begun)
+            if variation.goes_on
+            else play_inputs_dropping_refused(variation.begun)
+        )

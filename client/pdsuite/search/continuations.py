@@ -3,10 +3,10 @@
 from collections.abc import Iterator
 from dataclasses import replace
 
-from pdsuite.compare.divergence import played_events
+from pdsuite.compare.divergence import parse_played_events
 from pdsuite.packetdrill.items import SECOND
 from pdsuite.search.find import Find
-from pdsuite.search.inputs import Input, Inputs, make_call, make_inbound_packet
+from pdsuite.search.inputs import Input, Inputs, make_call, make_dataless_inbound_packet
 from pdsuite.search.simulate import LONGEST_GAP, LONG_GAPS, TICK
 
 _WRITE = make_call("write", 4, "...", 20_000)
@@ -18,12 +18,14 @@ def continued_inputs_of_find(find: Find) -> Iterator[Inputs]:
     inputs = find.inputs
     last = inputs.events[-1].at + SECOND if inputs.events else 0
     wait = Input(last + 10 * SECOND, TICK)
-    top = _final_top_of(find.recording)
+    top = _last_state_top_or_one(find.recording)
     yield _append_events(inputs, wait)
     yield _append_events(inputs, Input(last, _WRITE), wait)
     yield _append_events(inputs, Input(last, _CLOSE), wait)
     for number in (1, 2):
-        yield _append_events(inputs, Input(last, make_inbound_packet(".", number, top, 257)), Input(last, _WRITE), wait)
+        yield _append_events(
+            inputs, Input(last, make_dataless_inbound_packet(".", number, top, 257)), Input(last, _WRITE), wait
+        )
     for first in ((), (Input(last, _CLOSE),)):
         yield _append_events(inputs, *first, *ticks_past_all_timers(last))
 
@@ -37,7 +39,7 @@ def _append_events(inputs: Inputs, *events: Input) -> Inputs:
     return replace(inputs, events=(*inputs.events, *events))
 
 
-def _final_top_of(recording: str) -> int:
+def _last_state_top_or_one(recording: str) -> int:
     """The number after all that was sent, where the last state has it."""
-    facts = [it.state.split(" ") for it in played_events(recording)][-1:]
+    facts = [it.state.split(" ") for it in parse_played_events(recording)][-1:]
     return next((int(it[4:]) for words in facts for it in words if it.startswith("top:")), 1)

@@ -6,7 +6,7 @@ from collections.abc import Iterable, Iterator, Mapping
 from dataclasses import dataclass, field
 from fnmatch import fnmatchcase
 
-from pdsuite.compare.divergence import PlayedEvent, played_events
+from pdsuite.compare.divergence import PlayedEvent, parse_played_events
 
 _FLIGHT = re.compile(r" FlightSize:([1-9]\d*)")
 _RECOVERY = re.compile(r" recovery:(?!none)(\S+)")
@@ -39,19 +39,19 @@ class Coverage:
     def count_reached_by_input(self, recording: str, options: Iterable[str], settings: Iterable[str]) -> None:
         """Counts what one input reaches."""
         self.inputs += 1
-        events = list(played_events(recording))
-        self.counts.update(set(_names_of_reached(events)))
+        events = list(parse_played_events(recording))
+        self.counts.update(set(_reached_flight_recovery_expiry_closing(events)))
         self.states.update({_state_name_of(it) for it in events})
         self.options.update(set(options))
         self.settings.update(set(settings))
 
     @property
-    def shares(self) -> Mapping[str, float]:
+    def input_shares_by_reached_name(self) -> Mapping[str, float]:
         """The share of the inputs that reach each, from 0 to 1."""
         return {name: self.counts[name] / max(self.inputs, 1) for name in SHARES}
 
 
-def _names_of_reached(events: Iterable[PlayedEvent]) -> Iterator[str]:
+def _reached_flight_recovery_expiry_closing(events: Iterable[PlayedEvent]) -> Iterator[str]:
     expiry = ""
     for it in events:
         name = _state_name_of(it)
@@ -82,7 +82,7 @@ class StatePattern:
 
     def is_reached_in(self, recording: str) -> bool:
         """Whether a state of a recording has all of them."""
-        return any(self._fits_state(it.state) for it in played_events(recording))
+        return any(self._fits_state(it.state) for it in parse_played_events(recording))
 
     def _fits_state(self, state: str) -> bool:
         name, *facts = state.split(" ")
@@ -90,7 +90,7 @@ class StatePattern:
         return all(key in there and fnmatchcase(there[key], value) for key, value in self.facts)
 
 
-def parse_state_pattern(text: str) -> StatePattern | None:
+def parse_state_pattern_if_valid(text: str) -> StatePattern | None:
     """The pattern that a text says, if it says one."""
     words = [it.partition(":") for it in text.split()]
     if not words or any(not name or not value for name, _, value in words):

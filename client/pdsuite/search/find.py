@@ -4,7 +4,7 @@ from collections.abc import Sequence
 from dataclasses import dataclass
 from typing import Protocol
 
-from pdsuite.compare.divergence import first_divergence, played_events
+from pdsuite.compare.divergence import first_divergence_in_event_or_time, parse_played_events
 from pdsuite.programs.recorder import Recording
 from pdsuite.programs.verdict import Row, Verdict
 from pdsuite.search.coverage import StatePattern
@@ -27,7 +27,9 @@ class Find:
 class FindTest(Protocol):
     """Decides which inputs are finds."""
 
-    def finds_among(self, inputs: Sequence[Inputs], recordings: Sequence[Recording]) -> list[Find | None]:
+    def find_or_none_for_each_input(
+        self, inputs: Sequence[Inputs], recordings: Sequence[Recording]
+    ) -> list[Find | None]:
         """The finds among inputs, by their recordings."""
 
 
@@ -48,9 +50,11 @@ class FailsTest:
 
     other: SenderOracle
 
-    def finds_among(self, inputs: Sequence[Inputs], recordings: Sequence[Recording]) -> list[Find | None]:
+    def find_or_none_for_each_input(
+        self, inputs: Sequence[Inputs], recordings: Sequence[Recording]
+    ) -> list[Find | None]:
         made = [Find(it, recording.text) if recording.text else None for it, recording in zip(inputs, recordings)]
-        rows = iter(self.other.rows([configured_script_of(it) for it in made if it is not None]))
+        rows = iter(self.other.run_scripts_for_rows([configured_script_of(it) for it in made if it is not None]))
         finds = [None if it is None else Find(it.inputs, it.recording, next(rows)) for it in made]
         return [
             it if it is not None and it.row is not None and it.row.verdict is not Verdict.PASS else None for it in finds
@@ -76,11 +80,15 @@ class DiffersTest:
         self, inputs: Sequence[Inputs], recordings: Sequence[Recording]
     ) -> list[SenderDifference | None]:
         """How the senders differ on each, if they do."""
-        others = self.other.recordings(inputs)
-        return [_sender_difference(it, one, other) for it, one, other in zip(inputs, recordings, others)]
+        others = self.other.record_inputs_or_scripts(inputs)
+        return [
+            _sender_difference_in_play_or_state(it, one, other) for it, one, other in zip(inputs, recordings, others)
+        ]
 
-    def finds_among(self, inputs: Sequence[Inputs], recordings: Sequence[Recording]) -> list[Find | None]:
-        others = self.other.recordings(inputs)
+    def find_or_none_for_each_input(
+        self, inputs: Sequence[Inputs], recordings: Sequence[Recording]
+    ) -> list[Find | None]:
+        others = self.other.record_inputs_or_scripts(inputs)
         return [
             Find(it, one.text) if one.text and _play_differently(one, other) else None
             for it, one, other in zip(inputs, recordings, others)
@@ -93,19 +101,21 @@ class ReachesTest:
 
     pattern: StatePattern
 
-    def finds_among(self, inputs: Sequence[Inputs], recordings: Sequence[Recording]) -> list[Find | None]:
+    def find_or_none_for_each_input(
+        self, inputs: Sequence[Inputs], recordings: Sequence[Recording]
+    ) -> list[Find | None]:
         return [
             Find(it, one.text) if self.pattern.is_reached_in(one.text) else None for it, one in zip(inputs, recordings)
         ]
 
 
-def _sender_difference(inputs: Inputs, one: Recording, other: Recording) -> SenderDifference | None:
+def _sender_difference_in_play_or_state(inputs: Inputs, one: Recording, other: Recording) -> SenderDifference | None:
     if not one.text or one.text == other.text:
         return None
     if _play_differently(one, other):
         return SenderDifference(Find(inputs, one.text), True, len(inputs.events))
     count = 0
-    for it, that in zip(played_events(one.text), played_events(other.text)):
+    for it, that in zip(parse_played_events(one.text), parse_played_events(other.text)):
         count += is_input(it)
         if it.state != that.state:
             return SenderDifference(Find(inputs, one.text), False, count)
@@ -113,4 +123,4 @@ def _sender_difference(inputs: Inputs, one: Recording, other: Recording) -> Send
 
 
 def _play_differently(one: Recording, other: Recording) -> bool:
-    return not other.text or first_divergence(one.text, other.text) is not None
+    return not other.text or first_divergence_in_event_or_time(one.text, other.text) is not None

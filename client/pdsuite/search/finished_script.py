@@ -3,7 +3,7 @@
 from collections.abc import Callable, Iterator, Sequence
 from dataclasses import dataclass, replace
 
-from pdsuite.compare.divergence import PlayedEvent, played_events
+from pdsuite.compare.divergence import PlayedEvent, parse_played_events
 from pdsuite.packetdrill.items import Time
 from pdsuite.programs.verdict import Row, Verdict
 from pdsuite.search.find import Find, configured_script_of
@@ -31,25 +31,25 @@ def least_script_of_find(find: Find, before: SenderOracle, after: SenderOracle) 
     best = FinishedScript(configured_script_of(find), find.row)
     if find.row is None or find.row.line is None:
         return best
-    played = list(played_events(find.recording))[: find.row.line - find.inputs.header_line_count]
+    played = list(parse_played_events(find.recording))[: find.row.line - find.inputs.header_line_count]
     for kept in (_without_waits(played), played):
-        smaller = _passing_before_failing_after([_script_of_events(find, kept)], before, after)
+        smaller = _scripts_passing_before_failing_after([_script_of_events(find, kept)], before, after)
         if smaller:
             best = smaller[0]
             break
-    while found := _passing_before_failing_after(list(_scripts_less_one_wait(best)), before, after):
+    while found := _scripts_passing_before_failing_after(list(_scripts_less_one_wait(best)), before, after):
         best = found[0]
     return best
 
 
-def with_head_comment(
+def prepend_comment_and_rerun_for_row(
     it: FinishedScript, head: Callable[[Row | None], Sequence[str]], after: SenderOracle
 ) -> FinishedScript:
     """The script below lines of comment, which name its row as it is when it is run with them."""
     row = it.row
     for _ in range(2):
         script = replace(it.script, octets=prepend_comment_lines(head(row), it.script.octets))
-        (ran,) = after.rows([script])
+        (ran,) = after.run_scripts_for_rows([script])
         row = None if ran.verdict is Verdict.PASS else ran
     return FinishedScript(script, row)
 
@@ -59,11 +59,11 @@ def prepend_comment_lines(head: Sequence[str], octets: bytes) -> bytes:
     return "".join(f"// {line}\n" for line in head).encode("utf-8", "surrogateescape") + octets
 
 
-def _passing_before_failing_after(
+def _scripts_passing_before_failing_after(
     scripts: Sequence[ConfiguredScript], before: SenderOracle, after: SenderOracle
 ) -> list[FinishedScript]:
     """Those scripts that pass before and fail after."""
-    rows = zip(scripts, before.rows(scripts), after.rows(scripts))
+    rows = zip(scripts, before.run_scripts_for_rows(scripts), after.run_scripts_for_rows(scripts))
     return [
         FinishedScript(it, new)
         for it, old, new in rows
@@ -101,12 +101,14 @@ def _scripts_less_one_wait(best: FinishedScript) -> Iterator[ConfiguredScript]:
         time, _, rest = line.partition(" ")
         then, _, next_rest = lines[place + 1].partition(" ")
         if rest.startswith(f"{TICK.name}(") and time.startswith("+") and then.startswith("+"):
-            at = (parse_moment(_time_with_decimals(time)) or 0) + (parse_moment(_time_with_decimals(then)) or 0)
+            at = (parse_moment(_time_text_with_decimal_point(time)) or 0) + (
+                parse_moment(_time_text_with_decimal_point(then)) or 0
+            )
             kept = [*lines[:place], f"{Time(at)} {next_rest}", *lines[place + 2 :]]
             yield replace(best.script, octets="".join(f"{it}\n" for it in kept).encode("utf-8", "surrogateescape"))
 
 
-def _time_with_decimals(time: str) -> str:
+def _time_text_with_decimal_point(time: str) -> str:
     """A time with decimals."""
     text = time.removeprefix("+")
     return text if "." in text else f"{text}.0"

@@ -57,7 +57,9 @@ _LATER = tuple(it for it in Irregularity if it not in (Irregularity.FIN, Irregul
 _NUMBERS = (0, 1, 2, 3, 100, 1_000, 2_500)
 
 
-def scenario_lists(seed: int, sizes: Iterable[int], emphasis: Emphasis = Emphasis()) -> Iterator[list[Scenario]]:
+def scenario_lists_of_sizes(
+    seed: int, sizes: Iterable[int], emphasis: Emphasis = Emphasis()
+) -> Iterator[list[Scenario]]:
     """Lists of so many scenarios each, one after the other."""
     for number, size in enumerate(sizes):
         yield generate_scenarios(seed, number, size, emphasis)
@@ -81,7 +83,11 @@ class _Generator:
     def draw_scenario(self) -> Scenario:
         chosen = self._draw_settings()
         network = self._draw_network()
-        closed = self._draw_moment(network.round_trip) if self._happens_more_with_theme(Theme.CLOSE, 2) else None
+        closed = (
+            self._draw_moment_after_handshake(network.round_trip)
+            if self._happens_more_with_theme(Theme.CLOSE, 2)
+            else None
+        )
         idle = self._draw_idle_writes(chosen)
         return Scenario(
             chosen,
@@ -193,25 +199,31 @@ class _Generator:
         first = self._pick(sizes) if self._happens_more_with_theme(Theme.SMALL, 3) else self._pick(_LONG)
         acts = [PlannedCall(0, make_call("write", 4, "...", first))]
         for _ in range(self._draw_below(5)):
-            acts.append(PlannedCall(self._draw_moment(round_trip), make_call("write", 4, "...", self._pick(sizes))))
+            acts.append(
+                PlannedCall(
+                    self._draw_moment_after_handshake(round_trip), make_call("write", 4, "...", self._pick(sizes))
+                )
+            )
         if _RESTART in dict(chosen):
             acts.append(
                 PlannedCall(
-                    self._draw_moment(round_trip) + self._pick(_IDLE), make_call("write", 4, "...", self._pick(_LONG))
+                    self._draw_moment_after_handshake(round_trip) + self._pick(_IDLE),
+                    make_call("write", 4, "...", self._pick(_LONG)),
                 )
             )
         if self._happens_one_in(6):
             option = (4, "SOL_TCP", "TCP_NODELAY", f"[{self._draw_below(2)}]", 4)
             acts.append(
                 PlannedCall(
-                    0 if self._happens_one_in(2) else self._draw_moment(round_trip), make_call("setsockopt", *option)
+                    0 if self._happens_one_in(2) else self._draw_moment_after_handshake(round_trip),
+                    make_call("setsockopt", *option),
                 )
             )
         if closed is not None:
             acts.append(PlannedCall(closed, make_call("close", 4)))
             if self._happens_one_in(8):
                 acts.append(PlannedCall(closed, make_call("write", 4, "...", 100)))
-        return tuple(sorted(acts, key=_moment_after_handshake))
+        return tuple(sorted(acts, key=_delay_after_handshake))
 
     def _draw_idle_writes(self, chosen: Settings) -> tuple[PlannedCall, ...]:
         """What is written after idle times."""
@@ -228,22 +240,27 @@ class _Generator:
             is_near = closed is not None and not self._happens_one_in(3)
             irregular.append(
                 IrregularPacket(
-                    (closed or 0) + round_trip // 4 if is_near else self._draw_moment(round_trip), Irregularity.FIN
+                    (closed or 0) + round_trip // 4 if is_near else self._draw_moment_after_handshake(round_trip),
+                    Irregularity.FIN,
                 )
             )
         if self._happens_one_in(3 if Theme.CLOSE in self._themes else 10):
-            irregular.append(IrregularPacket(self._draw_moment(round_trip), Irregularity.RESET, self._draw_below(2)))
+            irregular.append(
+                IrregularPacket(self._draw_moment_after_handshake(round_trip), Irregularity.RESET, self._draw_below(2))
+            )
         if self._happens_more_with_theme(Theme.IRREGULAR, 3):
             for _ in range(self._draw_between(1, 4)):
                 irregular.append(
-                    IrregularPacket(self._draw_moment(round_trip), self._pick(_LATER), self._pick(_NUMBERS))
+                    IrregularPacket(
+                        self._draw_moment_after_handshake(round_trip), self._pick(_LATER), self._pick(_NUMBERS)
+                    )
                 )
-        return tuple(sorted(irregular, key=_moment_after_handshake))
+        return tuple(sorted(irregular, key=_delay_after_handshake))
 
-    def _draw_moment(self, round_trip: int) -> int:
+    def _draw_moment_after_handshake(self, round_trip: int) -> int:
         """A moment after the handshake: some round trips, in quarters and a little more."""
         return self._draw_below(25) * round_trip // 4 + self._pick((0, 1, 1_000))
 
 
-def _moment_after_handshake(it: PlannedCall | IrregularPacket) -> int:
+def _delay_after_handshake(it: PlannedCall | IrregularPacket) -> int:
     return it.after

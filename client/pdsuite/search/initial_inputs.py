@@ -5,8 +5,8 @@ from pathlib import Path
 
 from pdsuite.programs.trace import traced_events_in
 from pdsuite.run.batches import SuiteScript
-from pdsuite.run.collect import find_selected_scripts, make_scripts
-from pdsuite.run.run_batches import load_script_text
+from pdsuite.run.collect import find_selected_scripts_and_read_configs, suite_scripts_with_config
+from pdsuite.run.run_batches import load_script_text_or_fault
 from pdsuite.scripts.config import SuiteConfig, layer_of_option
 from pdsuite.search.inputs import Input, Inputs
 from pdsuite.search.mutate import CorpusEntry
@@ -24,13 +24,15 @@ def suite_scripts_of_tree(tree: Path | None, stop: Stop) -> list[ConfiguredScrip
     suite = SuiteConfig(layer_of_option(""))
     return [
         it
-        for script in make_scripts(find_selected_scripts([tree / SUITE], [], suite, stop), suite)
-        for it in _load_configured(script)
+        for script in suite_scripts_with_config(
+            find_selected_scripts_and_read_configs([tree / SUITE], [], suite, stop), suite
+        )
+        for it in _load_configured_script_if_readable(script)
     ]
 
 
-def _load_configured(script: SuiteScript) -> Iterator[ConfiguredScript]:
-    text = load_script_text(script)
+def _load_configured_script_if_readable(script: SuiteScript) -> Iterator[ConfiguredScript]:
+    text = load_script_text_or_fault(script)
     if not isinstance(text, str):
         yield ConfiguredScript(script.settings, text.octets)
 
@@ -43,7 +45,7 @@ def record_initial_inputs(
         ConfiguredScript(tuple(it for it in one.settings if it[0] not in fixed), one.octets) for one in scripts
     ]
     found: dict[Inputs, str] = {}
-    for it, recording in zip(configured, oracle.recordings(configured)):
+    for it, recording in zip(configured, oracle.record_inputs_or_scripts(configured)):
         events = [Input(event.moment, event.what) for event in traced_events_in(recording.text) if event.is_input]
         if events:
             found.setdefault(Inputs(it.settings, tuple(events)), recording.text)

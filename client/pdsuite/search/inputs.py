@@ -56,7 +56,7 @@ def call_text(it: Call) -> str:
     return f"{it.name}({', '.join(it.arguments)}) = {it.result}"
 
 
-def make_inbound_packet(
+def make_dataless_inbound_packet(
     flags: str, start: int, ack: int | None, win: int, options: tuple[TcpOption, ...] = ()
 ) -> Packet:
     """A packet without data that arrives; its FIN and SYN don't count in its length."""

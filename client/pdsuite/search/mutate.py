@@ -5,11 +5,11 @@ from dataclasses import dataclass, replace
 from random import Random
 from typing import TypeVar
 
-from pdsuite.compare.divergence import played_events
+from pdsuite.compare.divergence import parse_played_events
 from pdsuite.packetdrill.items import SECOND, Call, Packet, TcpOption
 from pdsuite.scripts.settings import Settings, sorted_settings
 from pdsuite.search.generate import KEYS
-from pdsuite.search.inputs import Input, Inputs, make_call, make_inbound_packet, options_text
+from pdsuite.search.inputs import Input, Inputs, make_call, make_dataless_inbound_packet, options_text
 from pdsuite.search.scenario import Emphasis, Theme
 from pdsuite.search.states import TracedState, states_before_inputs
 
@@ -57,26 +57,26 @@ class InputMutator:
         self._first = sorted(emphasis.keys - emphasis.fixed)
         self._weights = [more if theme in emphasis.themes else some for some, theme, more in _KINDS.values()]
 
-    def choose_entry(self, kept: Sequence[CorpusEntry], latest: int) -> CorpusEntry:
+    def choose_kept_entry_favouring_latest(self, kept: Sequence[CorpusEntry], latest: int) -> CorpusEntry:
         """One of those that are kept: each second time one of the latest."""
         return self._pick(kept if self._random.random() < 0.5 else kept[-latest:])
 
-    def mutate(self, kept: CorpusEntry) -> MutatedInputs:
+    def mutate_inputs_and_maybe_truncate(self, kept: CorpusEntry) -> MutatedInputs:
         """Inputs that are like these."""
-        states = states_before_inputs(list(played_events(kept.recording)))
+        states = states_before_inputs(list(parse_played_events(kept.recording)))
         events = list(kept.inputs.events)
         open_from = next((place for place, it in enumerate(states) if it.is_open), len(events))
-        place = self._draw_place(states, min(open_from, len(events)), len(events))
+        place = self._draw_place_favouring_recovery(states, min(open_from, len(events)), len(events))
         goes_on = self._random.random() < 0.7
         if goes_on:
             del events[place:]
         for _ in range(self._random.randint(0 if goes_on else 1, _MOST_EDITS)):
             at = max(min(open_from, len(events)), min(len(events), place) - self._random.randint(0, 4))
-            self._change_or_insert_event(events, at, states[min(at, len(states) - 1)])
+            self._insert_move_delete_or_change_event(events, at, states[min(at, len(states) - 1)])
         settings = self._mutate_settings(kept.inputs.settings)
         return MutatedInputs(Inputs(settings, _with_rising_moments(events), kept.inputs.is_exact), goes_on)
 
-    def _draw_place(self, states: Sequence[TracedState], first: int, last: int) -> int:
+    def _draw_place_favouring_recovery(self, states: Sequence[TracedState], first: int, last: int) -> int:
         """Where inputs are varied: each second time where the sender recovers, if it does."""
         recovering = [place for place, it in enumerate(states[: last + 1]) if first <= place and it.is_recovering]
         if recovering and self._random.random() < 0.5:
@@ -94,11 +94,11 @@ class InputMutator:
         key = self._pick(keys)
         return sorted_settings({**dict(given), key: self._pick(KEYS[key])})
 
-    def _change_or_insert_event(self, events: list[Input], at: int, state: TracedState) -> None:
+    def _insert_move_delete_or_change_event(self, events: list[Input], at: int, state: TracedState) -> None:
         """Changes an event, or puts one before it."""
         there = events[at] if at < len(events) else None
         if there is None or self._random.random() < 0.5:
-            moment = events[at - 1].at + self._draw_gap(events[at - 1].at, state) if at else 0
+            moment = events[at - 1].at + self._draw_gap_near_timer_or_preset(events[at - 1].at, state) if at else 0
             events.insert(at, Input(moment, self._draw_new_input(state)))
         elif self._random.random() < 0.3:
             self._move_event_and_later(events, at, state)
@@ -109,7 +109,7 @@ class InputMutator:
         elif there.what.name == _WRITE:
             events[at] = replace(there, what=make_call(_WRITE, 4, "...", self._pick(_SIZES)))
 
-    def _draw_gap(self, now: int, state: TracedState) -> int:
+    def _draw_gap_near_timer_or_preset(self, now: int, state: TracedState) -> int:
         """How long something waits: until the timer expires, give or take a microsecond, or some round time."""
         expiry, timeout = state.fact_as_moment("expiry"), state.fact_as_moment("RTO")
         around = [it for it in (expiry and expiry - now, timeout) if it]
@@ -120,7 +120,7 @@ class InputMutator:
     def _move_event_and_later(self, events: list[Input], at: int, state: TracedState) -> None:
         """Moves an event and all after it."""
         before = events[at - 1].at if at else 0
-        by = before + self._draw_gap(before, state) - events[at].at
+        by = before + self._draw_gap_near_timer_or_preset(before, state) - events[at].at
         events[at:] = [replace(it, at=it.at + by) for it in events[at:]]
 
     def _draw_new_input(self, state: TracedState) -> Packet | Call:
@@ -133,7 +133,7 @@ class InputMutator:
             case "no delay":
                 return make_call("setsockopt", self._pick((3, 4)), *_NODELAY[1:], self._pick(("[0]", "[1]")), 4)
             case "odd":
-                return make_inbound_packet(
+                return make_dataless_inbound_packet(
                     self._pick(("F.", "R", "R.", "-")), self._pick((1, 1, 2)), self._draw_ack_number(state), 257
                 )
         return self._draw_ack(state)
@@ -141,11 +141,11 @@ class InputMutator:
     def _draw_ack(self, state: TracedState) -> Packet:
         window = self._pick((257, 32_792, self._pick(_WINDOWS)))
         blocks = self._draw_sack_option(state) if self._random.random() < 0.5 else ()
-        return make_inbound_packet(".", 1, self._draw_ack_number(state), window, blocks)
+        return make_dataless_inbound_packet(".", 1, self._draw_ack_number(state), window, blocks)
 
     def _draw_ack_number(self, state: TracedState) -> int:
         """An ack number: mostly in what is outstanding."""
-        una, top, end = (state.fact_as_number(it, 1) for it in ("una", "top", "end"))
+        una, top, end = (state.fact_as_number_or_default(it, 1) for it in ("una", "top", "end"))
         offset = self._pick(_OFFSETS)
         return max(
             0, self._pick((una, una, una + offset, max(una, top - offset), top, top, top + 1, end, una - offset))
@@ -153,7 +153,7 @@ class InputMutator:
 
     def _draw_sack_option(self, state: TracedState) -> tuple[TcpOption, ...]:
         """A SACK option."""
-        una, top = state.fact_as_number("una", 1), state.fact_as_number("top", 1)
+        una, top = state.fact_as_number_or_default("una", 1), state.fact_as_number_or_default("top", 1)
         numbers: list[int] = []
         for _ in range(self._pick((1, 1, 2, 3))):
             left = max(0, self._pick((una + self._pick(_OFFSETS), una - 1_000, top - self._pick(_OFFSETS))))

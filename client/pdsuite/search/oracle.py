@@ -9,7 +9,7 @@ from itertools import repeat
 from pathlib import Path
 from typing import Protocol, TypeVar
 
-from pdsuite.compare.built_senders import as_plain_build
+from pdsuite.compare.built_senders import build_plain_if_sender_is_optimised
 from pdsuite.compare.senders import Sender
 from pdsuite.compare.sides import Side
 from pdsuite.faults import Fault
@@ -20,22 +20,27 @@ from pdsuite.programs.program import Program, ProgramEndedError
 from pdsuite.programs.protocol import LONGEST_BLOCK, LONGEST_LINE, SETTLE, UnexpectedAnswerError
 from pdsuite.programs.protocol import (
     add_command,
-    parse_blocks,
+    parse_blocks_by_script_and_line,
     parse_new_rows,
-    script_name,
+    script_name_of_number,
     set_and_show_commands,
     set_command,
 )
 from pdsuite.programs.recorder import TRACE, Recording, record_texts, recording_cases, recording_from_answer
-from pdsuite.programs.refusals import Refusal, distinct_key_values, find_refusals, refusals_in_answer
+from pdsuite.programs.refusals import (
+    Refusal,
+    distinct_key_value_pairs,
+    query_refused_settings_retrying_once,
+    refusals_in_answer,
+)
 from pdsuite.programs.unproved_batch import ProgramCases
 from pdsuite.programs.unproved_session import UnprovedSession
 from pdsuite.programs.verdict import Row, Verdict
-from pdsuite.run.batches import split_by_size
+from pdsuite.run.batches import split_into_chunks_of_size
 from pdsuite.run.explainer import EXPLAIN
 from pdsuite.scripts.config import Claim
 from pdsuite.scripts.settings import Settings, set_command_words, settings_as_toml, sorted_settings
-from pdsuite.scripts.text import ScriptText, UnfitTextError, make_text
+from pdsuite.scripts.text import ScriptText, UnfitTextError, make_newline_ended_text_within_limits
 from pdsuite.search.inputs import Inputs
 from pdsuite.signals import Stop
 
@@ -66,13 +71,13 @@ class ConfiguredScript:
 class SenderOracle(Protocol):
     """Queries one sender."""
 
-    def recordings(self, inputs: Sequence[Inputs | ConfiguredScript]) -> list[Recording]:
+    def record_inputs_or_scripts(self, inputs: Sequence[Inputs | ConfiguredScript]) -> list[Recording]:
         """The recordings of inputs or of scripts, with states."""
 
-    def rows(self, scripts: Sequence[ConfiguredScript]) -> list[Row]:
+    def run_scripts_for_rows(self, scripts: Sequence[ConfiguredScript]) -> list[Row]:
         """What comes of scripts."""
 
-    def explain(self, script: ConfiguredScript) -> list[str]:
+    def explanation_lines_of_script(self, script: ConfiguredScript) -> list[str]:
         """The row of a script that doesn't pass with what it means, and the lines below it."""
 
 
@@ -95,37 +100,39 @@ class SideOracle:
         """The settings under which inputs or a script with these are played."""
         return self.side.effective_settings(sorted_settings({**dict(given), **dict(self.common)}))
 
-    def recordings(self, inputs: Sequence[Inputs | ConfiguredScript]) -> list[Recording]:
-        return self.oracle.recordings([replace(it, settings=self.settings_on_side(it.settings)) for it in inputs])
+    def record_inputs_or_scripts(self, inputs: Sequence[Inputs | ConfiguredScript]) -> list[Recording]:
+        return self.oracle.record_inputs_or_scripts(
+            [replace(it, settings=self.settings_on_side(it.settings)) for it in inputs]
+        )
 
-    def rows(self, scripts: Sequence[ConfiguredScript]) -> list[Row]:
-        return self.oracle.rows([self._with_side_settings(it) for it in scripts])
+    def run_scripts_for_rows(self, scripts: Sequence[ConfiguredScript]) -> list[Row]:
+        return self.oracle.run_scripts_for_rows([self._with_side_settings(it) for it in scripts])
 
-    def explain(self, script: ConfiguredScript) -> list[str]:
-        return self.oracle.explain(self._with_side_settings(script))
+    def explanation_lines_of_script(self, script: ConfiguredScript) -> list[str]:
+        return self.oracle.explanation_lines_of_script(self._with_side_settings(script))
 
     def _with_side_settings(self, it: ConfiguredScript) -> ConfiguredScript:
         return replace(it, settings=self.settings_on_side(it.settings))
 
 
 @contextmanager
-def open_oracles(senders: Sequence[Sender], stop: Stop) -> Iterator[list[SettingsOracle]]:
+def build_trees_and_open_oracles(senders: Sequence[Sender], stop: Stop) -> Iterator[list[SettingsOracle]]:
     """The oracles of senders: programs, or those of a tree, which `rt try` builds once for the block, side by side."""
     with ExitStack() as stack:
-        trees = {it.tree_to_build for it in senders if not it.has_programs}
+        trees = {it.known_tree_to_build for it in senders if not it.has_programs}
         sessions = {tree: stack.enter_context(UnprovedSession(tree, stop)) for tree in trees}
         for session in sessions.values():
-            session.wait_until_built()
-        yield [_make_oracle(it, stop, sessions) for it in senders]
+            session.wait_silently_until_built()
+        yield [_program_or_unproved_oracle(it, stop, sessions) for it in senders]
 
 
-def _make_oracle(sender: Sender, stop: Stop, sessions: Mapping[Path, UnprovedSession]) -> SettingsOracle:
+def _program_or_unproved_oracle(sender: Sender, stop: Stop, sessions: Mapping[Path, UnprovedSession]) -> SettingsOracle:
     if sender.has_programs:
         return ProgramOracle(sender, stop)
-    return UnprovedOracle(sender, sessions[sender.tree_to_build])
+    return UnprovedOracle(sender, sessions[sender.known_tree_to_build])
 
 
-def query_sizes() -> Iterator[int]:
+def input_counts_of_successive_queries() -> Iterator[int]:
     """How many inputs senders are queried about at once, one time after the other."""
     # What is found at once costs few inputs; where it isn't, many keep all processors at work.
     yield from _FIRST
@@ -144,27 +151,29 @@ class ProgramOracle:
         self._count = len(os.sched_getaffinity(0))
 
     def refusals_of_claims(self, claims: Sequence[Claim]) -> list[Refusal]:
-        return find_refusals(claims, lambda: Program([self._program], self._stop))
+        return query_refused_settings_retrying_once(claims, lambda: Program([self._program], self._stop))
 
-    def recordings(self, inputs: Sequence[Inputs | ConfiguredScript]) -> list[Recording]:
-        return self._query_by_settings(inputs, self._record_with_equal_settings)
+    def record_inputs_or_scripts(self, inputs: Sequence[Inputs | ConfiguredScript]) -> list[Recording]:
+        return self._query_groups_of_equal_settings(inputs, self._record_with_equal_settings)
 
-    def rows(self, scripts: Sequence[ConfiguredScript]) -> list[Row]:
-        return self._query_by_settings(scripts, self._rows_with_equal_settings)
+    def run_scripts_for_rows(self, scripts: Sequence[ConfiguredScript]) -> list[Row]:
+        return self._query_groups_of_equal_settings(scripts, self._rows_with_equal_settings)
 
     def _record_with_equal_settings(self, inputs: Sequence[Inputs | ConfiguredScript]) -> list[Recording]:
         """The recordings of inputs with equal settings."""
         texts = [it.script_octets() for it in inputs]
         return list(record_texts(self._recorder, texts, inputs[0].settings, self._stop, (TRACE,)))
 
-    def _query_by_settings(self, items: Sequence[A], work: Callable[[Sequence[A]], Sequence[U]]) -> list[U]:
+    def _query_groups_of_equal_settings(
+        self, items: Sequence[A], work: Callable[[Sequence[A]], Sequence[U]]
+    ) -> list[U]:
         """What comes of each item, where those with equal settings are handed on together, so many at most."""
-        pieces = list(_group_by_settings(items))
+        pieces = list(_places_grouped_by_settings(items))
         answers = self._map_in_threads(lambda it: work([items[place] for place in it]), pieces)
         found = {place: one for piece, answer in zip(pieces, answers) for place, one in zip(piece, answer)}
         return [found[place] for place in range(len(items))]
 
-    def explain(self, script: ConfiguredScript) -> list[str]:
+    def explanation_lines_of_script(self, script: ConfiguredScript) -> list[str]:
         with self._start_program(script.settings, EXPLAIN) as program:
             return _explanation_lines(program.finish_and_read_errors(_add_commands([script]), 2 * LONGEST_BLOCK))
 
@@ -176,13 +185,15 @@ class ProgramOracle:
                 return parse_new_rows(answer, b"", _numbered_names(scripts), len(scripts))
         except (ProgramEndedError, UnexpectedAnswerError) as end:
             if len(scripts) == 1:
-                return [Row(Verdict.ERROR, 0, self._reason_of_end(scripts[0], str(end)))]
+                return [Row(Verdict.ERROR, 0, self._end_reason_from_plain_build_if_stopped(scripts[0], str(end)))]
             return [row for it in scripts for row in self._rows_with_equal_settings([it])]
 
-    def _reason_of_end(self, script: ConfiguredScript, end: str) -> str:
+    def _end_reason_from_plain_build_if_stopped(self, script: ConfiguredScript, end: str) -> str:
         """Why the program ended on a script. Where an optimised one stops, a plain one says where."""
-        plain = as_plain_build(self._sender, self._stop) if _STOPS in end else None
-        (row,) = ProgramOracle(plain, self._stop).rows([script]) if plain else [Row(Verdict.ERROR, 0, end)]
+        plain = build_plain_if_sender_is_optimised(self._sender, self._stop) if _STOPS in end else None
+        (row,) = (
+            ProgramOracle(plain, self._stop).run_scripts_for_rows([script]) if plain else [Row(Verdict.ERROR, 0, end)]
+        )
         return row.word if row.verdict is Verdict.ERROR else end
 
     def _start_program(self, settings: Settings, *words: str) -> Program:
@@ -198,58 +209,58 @@ class UnprovedOracle:
     """Queries the programs of a tree as it stands, which `rt try` has built."""
 
     def __init__(self, sender: Sender, session: UnprovedSession) -> None:
-        self._tree = sender.tree_to_build
+        self._tree = sender.known_tree_to_build
         self._session = session
 
     def refusals_of_claims(self, claims: Sequence[Claim]) -> list[Refusal]:
         settings_case = Case(
-            (), b"".join(set_and_show_commands(*it) for it in distinct_key_values(claims)), is_alone=True
+            (), b"".join(set_and_show_commands(*it) for it in distinct_key_value_pairs(claims)), is_alone=True
         )
         (answer,) = self._session.run_cases(ProgramCases(self._tree, REGRESS, (), (settings_case,)))
         if answer.fault:
             raise Fault(answer.fault)
         return refusals_in_answer(claims, answer.output)
 
-    def recordings(self, inputs: Sequence[Inputs | ConfiguredScript]) -> list[Recording]:
+    def record_inputs_or_scripts(self, inputs: Sequence[Inputs | ConfiguredScript]) -> list[Recording]:
         answers = self._session.run_cases(
             recording_cases(self._tree, [(it.settings, it.script_octets()) for it in inputs])
         )
         return [recording_from_answer(it) for it in answers]
 
-    def rows(self, scripts: Sequence[ConfiguredScript]) -> list[Row]:
-        return [_row_of_only_script(it) for it in self._run_each_alone(scripts)]
+    def run_scripts_for_rows(self, scripts: Sequence[ConfiguredScript]) -> list[Row]:
+        return [_row_of_only_script_or_error_row(it) for it in self._run_each_script_in_own_start(scripts)]
 
-    def explain(self, script: ConfiguredScript) -> list[str]:
-        (answer,) = self._run_each_alone([script], EXPLAIN)
+    def explanation_lines_of_script(self, script: ConfiguredScript) -> list[str]:
+        (answer,) = self._run_each_script_in_own_start([script], EXPLAIN)
         return [answer.fault] if answer.fault else _explanation_lines(answer.errors)
 
-    def _run_each_alone(self, scripts: Sequence[ConfiguredScript], *words: str) -> list[ProgramAnswer]:
+    def _run_each_script_in_own_start(self, scripts: Sequence[ConfiguredScript], *words: str) -> list[ProgramAnswer]:
         """What comes of each script in a start of its own, which costs little."""
         cases = tuple(Case((), _set_commands(it.settings) + _add_commands([it])) for it in scripts)
         return self._session.run_cases(ProgramCases(self._tree, REGRESS, words, cases))
 
 
-def _row_of_only_script(answer: ProgramAnswer) -> Row:
+def _row_of_only_script_or_error_row(answer: ProgramAnswer) -> Row:
     """The row of the only script."""
     if answer.fault:
         return Row(Verdict.ERROR, 0, answer.fault)
     try:
-        (row,) = parse_new_rows(answer.output, b"", [script_name(0)], 1)
+        (row,) = parse_new_rows(answer.output, b"", [script_name_of_number(0)], 1)
         return row
     except UnexpectedAnswerError as unexpected:
         return Row(Verdict.ERROR, 0, str(unexpected))
 
 
-def _group_by_settings(items: Sequence[A]) -> Iterable[tuple[int, ...]]:
+def _places_grouped_by_settings(items: Sequence[A]) -> Iterable[tuple[int, ...]]:
     """The places of inputs or scripts, those with equal settings together."""
     groups: dict[Settings, list[int]] = {}
     for place, it in enumerate(items):
         groups.setdefault(it.settings, []).append(place)
-    return [piece for group in groups.values() for piece in split_by_size(group, _PIECE)]
+    return [piece for group in groups.values() for piece in split_into_chunks_of_size(group, _PIECE)]
 
 
 def _numbered_names(scripts: Sequence[ConfiguredScript]) -> list[bytes]:
-    return [script_name(number) for number in range(len(scripts))]
+    return [script_name_of_number(number) for number in range(len(scripts))]
 
 
 def _set_commands(settings: Settings) -> bytes:
@@ -258,20 +269,21 @@ def _set_commands(settings: Settings) -> bytes:
 
 def _add_commands(scripts: Sequence[ConfiguredScript]) -> bytes:
     return b"".join(
-        add_command(name, _text_or_failing_text(it.octets)) for name, it in zip(_numbered_names(scripts), scripts)
+        add_command(name, _script_text_or_failing_if_too_long(it.octets))
+        for name, it in zip(_numbered_names(scripts), scripts)
     )
 
 
-def _text_or_failing_text(octets: bytes) -> ScriptText:
+def _script_text_or_failing_if_too_long(octets: bytes) -> ScriptText:
     """The text of a recording, or one that fails where it is over the limits."""
     try:
-        return make_text(octets)
+        return make_newline_ended_text_within_limits(octets)
     except UnfitTextError:
-        return make_text(b"too long")
+        return make_newline_ended_text_within_limits(b"too long")
 
 
 def _explanation_lines(errors: bytes) -> list[str]:
     """The block of the only script: what its row means, and the lines below that."""
-    blocks = parse_blocks(errors)
+    blocks = parse_blocks_by_script_and_line(errors)
     (lines,) = blocks.values() or [[]]
     return [printable_octets(it) for it in lines]

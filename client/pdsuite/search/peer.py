@@ -3,7 +3,7 @@
 from collections.abc import Iterator
 
 from pdsuite.packetdrill.items import Packet, TcpOption
-from pdsuite.search.inputs import make_inbound_packet
+from pdsuite.search.inputs import make_dataless_inbound_packet
 from pdsuite.search.scenario import IrregularPacket, Irregularity, Scenario
 
 _MOST_BLOCKS = 3
@@ -36,7 +36,7 @@ class Peer:
         self.top = top
         self._number = number
 
-    def take_segment(self, span: OctetRange) -> bool:
+    def receive_segment_and_decide_ack(self, span: OctetRange) -> bool:
         """Takes a segment from the network; whether it is acknowledged at once."""
         start, end = span
         self.top = max(self.top, end)
@@ -51,7 +51,7 @@ class Peer:
         """The ACK of all that was taken."""
         self.waiting = 0
         self._acked = max(self._acked, self.next)
-        ack = make_inbound_packet(".", self._number, self.next, self.window_field, self._sack_option())
+        ack = make_dataless_inbound_packet(".", self._number, self.next, self.window_field, self._sack_option())
         self._acks += 1
         return ack
 
@@ -66,7 +66,7 @@ class Peer:
         octets = next(octets for first, octets in reversed(self._receiver.windows) if first <= self._acks)
         return min(-(-octets >> min(self._shift, _MOST_SHIFT)), _MOST_WINDOW)
 
-    def make_irregular_packet(self, it: IrregularPacket) -> Packet:
+    def make_irregular_packet_and_count_fin(self, it: IrregularPacket) -> Packet:
         """An irregular packet."""
         made = self._build_irregular_packet(it)
         if it.kind in (Irregularity.FIN, Irregularity.OLD_FIN):
@@ -77,35 +77,37 @@ class Peer:
         number, ack, own = it.number, self._acked, self._number
         match it.kind:
             case Irregularity.OLD_ACK:
-                return make_inbound_packet(".", own, max(ack - 1 - number, 0), self.window_field)
+                return make_dataless_inbound_packet(".", own, max(ack - 1 - number, 0), self.window_field)
             case Irregularity.EARLY_ACK:
-                return make_inbound_packet(".", own, min(self.top + 1 + number, _MOST_NUMBER), self.window_field)
+                return make_dataless_inbound_packet(
+                    ".", own, min(self.top + 1 + number, _MOST_NUMBER), self.window_field
+                )
             case Irregularity.SAME_ACK:
-                return make_inbound_packet(".", own, ack, self.window_field, self._sack_option())
+                return make_dataless_inbound_packet(".", own, ack, self.window_field, self._sack_option())
             case Irregularity.UPDATE:
-                return make_inbound_packet(".", own, ack, number % 65_536, self._sack_option())
+                return make_dataless_inbound_packet(".", own, ack, number % 65_536, self._sack_option())
             case Irregularity.NEWER:
-                return make_inbound_packet(".", own + 1 + number % 1_000, ack, self.window_field)
+                return make_dataless_inbound_packet(".", own + 1 + number % 1_000, ack, self.window_field)
             case Irregularity.BARE:
-                return make_inbound_packet("-", own, None, self.window_field)
+                return make_dataless_inbound_packet("-", own, None, self.window_field)
             case Irregularity.OUTSIDE | Irregularity.RESET_FAR:
                 flags = "." if it.kind is Irregularity.OUTSIDE else "R"
-                return make_inbound_packet(
+                return make_dataless_inbound_packet(
                     flags, own + self._edge + number % 3 - 1, ack if flags == "." else None, self.window_field
                 )
             case Irregularity.BELOW:
-                return make_inbound_packet(".", own - 1, ack, self.window_field)
+                return make_dataless_inbound_packet(".", own - 1, ack, self.window_field)
             case Irregularity.RESET:
-                return make_inbound_packet(
+                return make_dataless_inbound_packet(
                     "R" if number % 2 else "R.", own, None if number % 2 else ack, self.window_field
                 )
             case Irregularity.RESET_NEAR:
-                return make_inbound_packet("R", own + 1 + number % max(self._edge, 2), None, self.window_field)
+                return make_dataless_inbound_packet("R", own + 1 + number % max(self._edge, 2), None, self.window_field)
             case Irregularity.FIN:
-                return make_inbound_packet("F.", own, self.next, self.window_field)
+                return make_dataless_inbound_packet("F.", own, self.next, self.window_field)
             case Irregularity.OLD_FIN:
-                return make_inbound_packet("F.", own, max(ack - 1 - number, 0), self.window_field)
-        return make_inbound_packet(".", own, ack, self.window_field, tuple(self._irregular_sack_options(it)))
+                return make_dataless_inbound_packet("F.", own, max(ack - 1 - number, 0), self.window_field)
+        return make_dataless_inbound_packet(".", own, ack, self.window_field, tuple(self._irregular_sack_options(it)))
 
     def _irregular_sack_options(self, it: IrregularPacket) -> Iterator[TcpOption]:
         """Blocks that have other octets than those that were taken."""

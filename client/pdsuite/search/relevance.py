@@ -16,7 +16,7 @@ _PARTS: Mapping[str, tuple[Sequence[str], Sequence[Theme]]] = {
     "early|limited": (("limited_transmit",), (Theme.LOSS,)),
     "nagle|held_back": (("nagle",), (Theme.SMALL,)),
     "widest|half_window|sendable|usable": (("nagle",), (Theme.WINDOW, Theme.SMALL)),
-    "rwnd|window_edge|wl1|wl2": ((), (Theme.WINDOW, Theme.IRREGULAR)),
+    "rwnd|smaller_window|wl1|wl2": ((), (Theme.WINDOW, Theme.IRREGULAR)),
     "sack|score|block|span|range|mark|lost|pipe|high_rxt|rescue|fresh|(^|_)hole": ((), (Theme.LOSS, Theme.IRREGULAR)),
     "dup|recover|half|note|step_c": ((), (Theme.LOSS,)),
     "plain|fast_retransmit|new_segment|take_number": (("sack",), (Theme.NO_SACK, Theme.LOSS)),
@@ -24,7 +24,7 @@ _PARTS: Mapping[str, tuple[Sequence[str], Sequence[Theme]]] = {
     "srtt|rttvar|estimate|granularity": (("min_rto_us", "granularity_us"), (Theme.EXPIRY,)),
     "(^|_)fin(_|$)|close": ((), (Theme.CLOSE, Theme.IRREGULAR)),
     "(^|_)rst|reset|challenge|ruling|check_|refus": ((), (Theme.IRREGULAR, Theme.CLOSE)),
-    "sndbuf|free": (("sndbuf",), (Theme.SMALL,)),
+    "sndbuf|send_buffer": (("sndbuf",), (Theme.SMALL,)),
     "ssthresh|cwnd|widen": (("initial_ssthresh",), (Theme.LOSS,)),
     "first_window|window_by|initial_window|first_segments": (("initial_window", "mss"), ()),
     "smss_of|announced|DEFAULT_MSS": (("mss",), (Theme.SMALL,)),
@@ -44,7 +44,7 @@ def emphasis_of_changes(changed: Iterable[Mapping[str, Any]], fixed: frozenset[s
     return Emphasis(fixed=fixed)
 
 
-def suggest_suite_script(changed: Iterable[Mapping[str, Any]]) -> list[str]:
+def script_name_and_comment_of_changed_rule(changed: Iterable[Mapping[str, Any]]) -> list[str]:
     """How a script of a changed rule may come into the suite: its name, and the two lines that say what it tests."""
     for it in changed:
         if it["sections"]:

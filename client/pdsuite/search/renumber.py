@@ -19,7 +19,8 @@ def inputs_less_one_round(inputs: Inputs, states: Sequence[TracedState]) -> Iter
         for first in range(opened, count - length + 1):
             last = first + length
             for octets in dict.fromkeys(
-                states[last].fact_as_number(it) - states[first].fact_as_number(it) for it in _NUMBERS
+                states[last].fact_as_number_or_default(it) - states[first].fact_as_number_or_default(it)
+                for it in _NUMBERS
             ):
                 if octets > 0:
                     yield _remove_round(inputs, first, last, octets)
@@ -28,11 +29,11 @@ def inputs_less_one_round(inputs: Inputs, states: Sequence[TracedState]) -> Iter
 def _remove_round(inputs: Inputs, first: int, last: int, octets: int) -> Inputs:
     events = inputs.events
     gone = events[last].at - events[first].at if last < len(events) else 0
-    later = [Input(it.at - gone, _lower_packet_numbers(it.what, octets)) for it in events[last:]]
+    later = [Input(it.at - gone, _lower_ack_and_sack_numbers(it.what, octets)) for it in events[last:]]
     return replace(inputs, events=(*events[:first], *later))
 
 
-def _lower_packet_numbers(what: Packet | Call, octets: int) -> Packet | Call:
+def _lower_ack_and_sack_numbers(what: Packet | Call, octets: int) -> Packet | Call:
     """A packet whose numbers of the sender's octets are so much lower."""
     if isinstance(what, Call) or what.ack is None or what.ack <= octets:
         return what

@@ -5,23 +5,23 @@ from pathlib import Path
 
 from pdsuite.faults import Fault
 from pdsuite.files import append_to_file, write_file_atomically
-from pdsuite.imports.tables import is_toml_key, table_of_script
+from pdsuite.imports.tables import is_encodable_as_toml_key, table_of_script
 from pdsuite.output.octets import printable_path
-from pdsuite.scripts.config import CONFIG_FILE, SuiteConfig, layer_of_option, read_layer
+from pdsuite.scripts.config import CONFIG_FILE, SuiteConfig, layer_of_option, read_layer_if_file_exists
 from pdsuite.scripts.discover import SUFFIX, ScriptFile
 from pdsuite.scripts.settings import Settings
 
 _OPTION = "--save"
 
 
-def check_save_path(path: Path) -> None:
+def refuse_save_path_misnamed_or_configured(path: Path) -> None:
     """Refuses a file that a script can't be saved as: it would run under settings that nobody searched under."""
     name, folder = path.name, Path(os.path.realpath(path.parent))
     if not folder.is_dir():
         raise Fault(f"{_OPTION}: {printable_path(path)}: the folder above it isn't there")
-    if path.suffix != SUFFIX or not is_toml_key(name):
+    if path.suffix != SUFFIX or not is_encodable_as_toml_key(name):
         raise Fault(f"{_OPTION}: {printable_path(path)}: no name of a script: it has to end with {SUFFIX}, as UTF-8")
-    layer = read_layer(folder / CONFIG_FILE)
+    layer = read_layer_if_file_exists(folder / CONFIG_FILE)
     has_table = layer is not None and any(name in it for it in (layer.tables, layer.strict, layer.expected))
     settings = SuiteConfig(layer_of_option("")).settings_of_script(ScriptFile(os.fspath(path), os.fspath(folder), name))
     if settings or has_table:

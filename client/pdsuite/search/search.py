@@ -52,51 +52,61 @@ class Search:
         coverage = Coverage()
         unshown: Find | None = None
         for games in self.candidates.input_lists():
-            played = [it for it in play_side_by_side(games, self.before) if it.recording.text]
+            played = [it for it in play_input_steps_in_joint_recordings(games, self.before) if it.recording.text]
             _count_coverage(coverage, played)
             self.candidates.keep_inputs_with_new_steps(played)
-            found, hidden = self._find_simplest(played)
+            found, hidden = self._simplest_find_or_hidden_difference(played)
             unshown = unshown or hidden
             if found is not None:
-                return self._shrink_result(found, self.test, coverage, time.monotonic() - begin)
+                return self._shrink_find_into_search_result(found, self.test, coverage, time.monotonic() - begin)
             advance(coverage.inputs)
             if self._is_limit_reached(coverage, time.monotonic() - begin):
                 break
         if unshown is not None and self.hidden is not None:
-            return self._shrink_result(unshown, self.hidden, coverage, time.monotonic() - begin)
+            return self._shrink_find_into_search_result(unshown, self.hidden, coverage, time.monotonic() - begin)
         return SearchResult(None, None, coverage, time.monotonic() - begin)
 
     def _is_limit_reached(self, coverage: Coverage, seconds: float) -> bool:
         return seconds >= self.seconds if self.count is None else coverage.inputs >= self.count
 
-    def _shrink_result(self, find: Find, test: FindTest, coverage: Coverage, seconds: float) -> SearchResult:
+    def _shrink_find_into_search_result(
+        self, find: Find, test: FindTest, coverage: Coverage, seconds: float
+    ) -> SearchResult:
         begin = time.monotonic()
         least = shrink_find(find, test, self.before, self.seconds)
         found, unshown = (least, None) if test is self.test else (None, least)
         return SearchResult(found, unshown, coverage, seconds, time.monotonic() - begin)
 
-    def _find_simplest(self, played: Sequence[PlayedInputs]) -> tuple[Find | None, Find | None]:
+    def _simplest_find_or_hidden_difference(self, played: Sequence[PlayedInputs]) -> tuple[Find | None, Find | None]:
         """The simplest find, or else the simplest input on which senders play otherwise, and nothing shows it."""
         inputs, recordings = [it.inputs for it in played], [it.recording for it in played]
         if self.hidden is None:
-            return _simplest_find(self.test.finds_among(inputs, recordings)), None
+            return _simplest_find(self.test.find_or_none_for_each_input(inputs, recordings)), None
         differences = [it for it in self.hidden.sender_differences(inputs, recordings) if it is not None]
         shown = sorted((it for it in differences if it.is_played), key=_difference_size)
-        found = self._simplest_after_test([it.find for it in shown])
+        found = self._simplest_find_of_retested_finds([it.find for it in shown])
         if found is not None:
             return found, None
         further = [more for it in shown[:_TRIED] for more in continued_inputs_of_find(it.find)]
-        found = _simplest_find(self.test.finds_among(further, self.before.recordings(further))) if further else None
+        found = (
+            _simplest_find(
+                self.test.find_or_none_for_each_input(further, self.before.record_inputs_or_scripts(further))
+            )
+            if further
+            else None
+        )
         if found is None:
             found = self._search_from_differences(
                 sorted((it for it in differences if not it.is_played), key=_difference_size) + shown
             )
         return found, shown[0].find if shown else None
 
-    def _simplest_after_test(self, finds: Sequence[Find]) -> Find | None:
+    def _simplest_find_of_retested_finds(self, finds: Sequence[Find]) -> Find | None:
         inputs = [it.inputs for it in finds]
         return (
-            _simplest_find(self.test.finds_among(inputs, [Recording(it.recording) for it in finds])) if inputs else None
+            _simplest_find(self.test.find_or_none_for_each_input(inputs, [Recording(it.recording) for it in finds]))
+            if inputs
+            else None
         )
 
     def _search_from_differences(self, differences: Sequence[SenderDifference]) -> Find | None:
@@ -105,14 +115,16 @@ class Search:
         if not begun:
             return None
         scenarios = self.candidates.more_scenarios(len(begun) * _PLANS)
-        played = play_side_by_side(
+        played = play_input_steps_in_joint_recordings(
             [play_on_from_inputs(scenario, begun[number % len(begun)]) for number, scenario in enumerate(scenarios)],
             self.before,
         )
         there = [it for it in played if it.recording.text]
         self.candidates.keep_inputs_with_new_steps(there)
         return (
-            _simplest_find(self.test.finds_among([it.inputs for it in there], [it.recording for it in there]))
+            _simplest_find(
+                self.test.find_or_none_for_each_input([it.inputs for it in there], [it.recording for it in there])
+            )
             if there
             else None
         )
@@ -127,18 +139,20 @@ def _inputs_until_difference(it: SenderDifference) -> Inputs:
     return replace(it.find.inputs, events=it.find.inputs.events[: it.after])
 
 
-def play_side_by_side(games: Iterable[InputSteps], oracle: SenderOracle) -> list[PlayedInputs]:
+def play_input_steps_in_joint_recordings(games: Iterable[InputSteps], oracle: SenderOracle) -> list[PlayedInputs]:
     """Plays side by side: all that is requested next is recorded at once. The results come in the order of games."""
     running = list(enumerate(games))
     pending = [(number, game, next(game)) for number, game in running]
     done: dict[int, PlayedInputs] = {}
     while pending:
-        recordings = oracle.recordings([inputs for _, _, inputs in pending])
-        pending = list(_advance_games([(number, game) for number, game, _ in pending], recordings, done))
+        recordings = oracle.record_inputs_or_scripts([inputs for _, _, inputs in pending])
+        pending = list(
+            _advance_input_steps_and_store_done([(number, game) for number, game, _ in pending], recordings, done)
+        )
     return [done[number] for number in sorted(done)]
 
 
-def _advance_games(
+def _advance_input_steps_and_store_done(
     games: Sequence[tuple[int, InputSteps]], recordings: Sequence[Recording], done: dict[int, PlayedInputs]
 ) -> Iterator[tuple[int, InputSteps, Inputs]]:
     """The games that go on, each with what it requests next; those that end come to the ones that are done."""

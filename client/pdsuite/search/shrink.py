@@ -5,7 +5,7 @@ from collections.abc import Iterable, Iterator, Sequence
 from dataclasses import dataclass, replace
 from itertools import islice
 
-from pdsuite.compare.divergence import played_events
+from pdsuite.compare.divergence import parse_played_events
 from pdsuite.packetdrill.items import Call, Packet, TcpOption
 from pdsuite.search.find import TRACE, Find, FindTest
 from pdsuite.search.inputs import Input, Inputs, make_call, options_text
@@ -55,7 +55,7 @@ def size_of_inputs(it: Inputs) -> _Size:
     return (len(it.events), len(it.settings), int(it.is_exact), len(text), sum(map(text.count, _NOT_ZERO)))
 
 
-def _size_of_find(it: Find) -> tuple[int, _Size]:
+def _script_lines_and_inputs_size(it: Find) -> tuple[int, _Size]:
     """How simple a find is: the lines of its script up to the one that fails, and its inputs."""
     lines = it.recording.count(TRACE) if it.row is None or it.row.line is None else it.row.line
     return lines, size_of_inputs(it.inputs)
@@ -65,44 +65,56 @@ def _smaller_find(find: Find, test: FindTest, before: SenderOracle) -> Find | No
     """A smaller find, if there is one: without events or rounds, then under fewer rules, then with simpler events."""
     whole = find.inputs
     for changes in (list(_piece_removals(whole)), list(_single_removals(whole))):
-        if (found := _apply_good_changes(find, changes, test, before)) is not None:
+        if (found := _smaller_find_by_combining_good_changes(find, changes, test, before)) is not None:
             return found
-    states = states_before_inputs(list(played_events(find.recording)))
+    states = states_before_inputs(list(parse_played_events(find.recording)))
     if len(states) == len(whole.events) + 1:
         rounds = inputs_less_one_round(whole, states)
         while some := list(islice(rounds, _AT_ONCE)):
-            if (found := _least_find_among(find, some, test, before)) is not None:
+            if (found := _least_smaller_find_among_candidates(find, some, test, before)) is not None:
                 return found
-    for others in (list(_with_fewer_rules(whole)), list(_with_sooner_ends(whole))):
-        if (found := _least_find_among(find, others, test, before)) is not None:
+    for others in (list(_without_one_setting_or_exactness(whole)), list(_rest_replaced_by_write_or_close(whole))):
+        if (found := _least_smaller_find_among_candidates(find, others, test, before)) is not None:
             return found
-    return _apply_good_changes(find, list(_simpler_event_changes(whole)), test, before)
+    return _smaller_find_by_combining_good_changes(find, list(_simpler_event_changes(whole)), test, before)
 
 
-def _apply_good_changes(find: Find, changes: Sequence[_Changes], test: FindTest, before: SenderOracle) -> Find | None:
+def _smaller_find_by_combining_good_changes(
+    find: Find, changes: Sequence[_Changes], test: FindTest, before: SenderOracle
+) -> Find | None:
     """The find that all changes lead to which lead to one by themselves, or else half of these, and so on."""
-    size, least = size_of_inputs(find.inputs), _size_of_find(find)
+    size, least = size_of_inputs(find.inputs), _script_lines_and_inputs_size(find)
     tried = [it for it in changes if size_of_inputs(_apply_changes(find.inputs, it)) < size]
-    found = _test_candidates([_apply_changes(find.inputs, it) for it in tried], test, before)
-    good = [(_size_of_find(it), number) for number, it in enumerate(found) if it is not None]
+    found = _record_and_test_candidates([_apply_changes(find.inputs, it) for it in tried], test, before)
+    good = [(_script_lines_and_inputs_size(it), number) for number, it in enumerate(found) if it is not None]
     chosen = [number for smaller, number in sorted(good) if smaller < least]
     while len(chosen) > 1:
         together = _apply_changes(find.inputs, [change for number in chosen for change in tried[number]])
-        (both,) = _test_candidates([together], test, before)
-        if both is not None and _size_of_find(both) < least:
+        (both,) = _record_and_test_candidates([together], test, before)
+        if both is not None and _script_lines_and_inputs_size(both) < least:
             return both
         chosen = chosen[: len(chosen) // 2]
     return found[chosen[0]] if chosen else None
 
 
-def _least_find_among(find: Find, candidates: Sequence[Inputs], test: FindTest, before: SenderOracle) -> Find | None:
-    least = _size_of_find(find)
-    there = [it for it in _test_candidates(candidates, test, before) if it is not None and _size_of_find(it) < least]
-    return min(there, key=_size_of_find) if there else None
+def _least_smaller_find_among_candidates(
+    find: Find, candidates: Sequence[Inputs], test: FindTest, before: SenderOracle
+) -> Find | None:
+    least = _script_lines_and_inputs_size(find)
+    there = [
+        it
+        for it in _record_and_test_candidates(candidates, test, before)
+        if it is not None and _script_lines_and_inputs_size(it) < least
+    ]
+    return min(there, key=_script_lines_and_inputs_size) if there else None
 
 
-def _test_candidates(candidates: Sequence[Inputs], test: FindTest, before: SenderOracle) -> list[Find | None]:
-    return test.finds_among(candidates, before.recordings(candidates)) if candidates else []
+def _record_and_test_candidates(
+    candidates: Sequence[Inputs], test: FindTest, before: SenderOracle
+) -> list[Find | None]:
+    return (
+        test.find_or_none_for_each_input(candidates, before.record_inputs_or_scripts(candidates)) if candidates else []
+    )
 
 
 def _apply_changes(inputs: Inputs, changes: Iterable[_EventChange]) -> Inputs:
@@ -143,7 +155,7 @@ def _single_removals(it: Inputs) -> Iterator[_Changes]:
         yield (_EventChange(place, goes=True),)
 
 
-def _with_fewer_rules(it: Inputs) -> Iterator[Inputs]:
+def _without_one_setting_or_exactness(it: Inputs) -> Iterator[Inputs]:
     """Without one setting, or with packets that may leave a little earlier or later."""
     for place in range(len(it.settings)):
         yield replace(it, settings=it.settings[:place] + it.settings[place + 1 :])
@@ -151,7 +163,7 @@ def _with_fewer_rules(it: Inputs) -> Iterator[Inputs]:
         yield replace(it, is_exact=False)
 
 
-def _with_sooner_ends(it: Inputs) -> Iterator[Inputs]:
+def _rest_replaced_by_write_or_close(it: Inputs) -> Iterator[Inputs]:
     """With a write or a close in place of all that follows an event, and with a wait that what these send meets."""
     for place in range(1, len(it.events)):
         at = it.events[place - 1].at
@@ -164,17 +176,17 @@ def _simpler_event_changes(it: Inputs) -> Iterator[_Changes]:
     """With one event simpler, or at a simpler time."""
     before = 0
     for place, event in enumerate(it.events):
-        yield from ((_EventChange(place, what=what),) for what in _simpler_variants(event.what))
+        yield from ((_EventChange(place, what=what),) for what in _simpler_packets_or_calls(event.what))
         yield from ((_EventChange(place, gap=gap),) for gap in _GAPS if gap != event.at - before)
         before = event.at
 
 
-def _simpler_variants(what: Packet | Call) -> Iterator[Packet | Call]:
+def _simpler_packets_or_calls(what: Packet | Call) -> Iterator[Packet | Call]:
     if isinstance(what, Call):
         if what.name == _WRITE and what.arguments[-1].isdecimal():
             yield from (replace(what, arguments=(*what.arguments[:-1], str(it))) for it in _SIZES)
         return
-    for options in _with_fewer_options(what.options):
+    for options in _shorter_option_lists(what.options):
         yield replace(what, options=options, options_text=options_text(options))
     if what.win is not None:
         yield from (replace(what, win=it) for it in _WINDOWS)
@@ -182,7 +194,7 @@ def _simpler_variants(what: Packet | Call) -> Iterator[Packet | Call]:
         yield replace(what, flags=".")
 
 
-def _with_fewer_options(options: tuple[TcpOption, ...]) -> Iterator[tuple[TcpOption, ...]]:
+def _shorter_option_lists(options: tuple[TcpOption, ...]) -> Iterator[tuple[TcpOption, ...]]:
     """Without one option, or without one block."""
     for place, option in enumerate(options):
         before, after = options[:place], options[place + 1 :]

@@ -6,10 +6,10 @@ from collections.abc import Generator, Iterator
 from dataclasses import dataclass, replace
 from itertools import count
 
-from pdsuite.compare.divergence import PlayedEvent, played_events
+from pdsuite.compare.divergence import PlayedEvent, parse_played_events
 from pdsuite.packetdrill.items import SECOND, Call, Packet
 from pdsuite.programs.recorder import Recording
-from pdsuite.search.inputs import Input, Inputs, make_call, make_inbound_packet
+from pdsuite.search.inputs import Input, Inputs, make_call, make_dataless_inbound_packet
 from pdsuite.search.peer import Peer
 from pdsuite.search.scenario import Ending, Handshake, IrregularPacket, Irregularity, Scenario
 from pdsuite.search.states import TracedState, parse_state
@@ -73,10 +73,10 @@ def play_on_from_inputs(scenario: Scenario, begun: Inputs) -> InputSteps:
 
     Where no connection is open at their end, they are all.
     """
-    return (yield from _Simulation(_fit_scenario_to_inputs(scenario, begun)).play_on_from_inputs(begun))
+    return (yield from _Simulation(_adopt_settings_and_syn_options(scenario, begun)).play_on_from_inputs(begun))
 
 
-def play_inputs(inputs: Inputs) -> InputSteps:
+def play_inputs_dropping_refused(inputs: Inputs) -> InputSteps:
     """Inputs as they are, without what the sender doesn't run."""
     events = list(inputs.events)
     recording = Recording("", "nothing is recorded yet")
@@ -97,7 +97,7 @@ def _refused_input_place(recording: Recording, inputs: Inputs, count: int) -> in
     return min(int(refused[1]) - 1 - inputs.header_line_count, count - 1)
 
 
-def _fit_scenario_to_inputs(scenario: Scenario, begun: Inputs) -> Scenario:
+def _adopt_settings_and_syn_options(scenario: Scenario, begun: Inputs) -> Scenario:
     """A scenario with the settings of inputs, and the options of their SYN."""
     syns = [it.what for it in begun.events if isinstance(it.what, Packet) and it.what.flags == "S"]
     options = syns[0].options if syns else ()
@@ -127,41 +127,41 @@ class _Simulation:
     def play(self) -> InputSteps:
         for at, what in _handshake_inputs(self._scenario.handshake, self._peer.window_field):
             self._schedule(at, what)
-        return (yield from self._play_rest())
+        return (yield from self._play_calls_irregular_packets_and_end())
 
     def play_on_from_inputs(self, begun: Inputs) -> InputSteps:
         """Takes up inputs where they end: what is outstanding then is on its way to the peer."""
-        taken = yield from play_inputs(begun)
+        taken = yield from play_inputs_dropping_refused(begun)
         self._events, self._recording = list(taken.inputs.events), taken.recording
-        played = list(played_events(self._recording.text))
+        played = list(parse_played_events(self._recording.text))
         state = parse_state(played[-1].state) if played else TracedState("CLOSED")
         if not state.is_open:
             return PlayedInputs(self._inputs_so_far(), self._recording)
         self._note_sender_state(played[-1])
         self._established_at = self._now
-        una = state.fact_as_number("una", 1)
+        una = state.fact_as_number_or_default("una", 1)
         self._peer.resume_at_numbers(
-            una, state.fact_as_number("top", 1), 2 if any(_has_fin(it.what) for it in begun.events) else 1
+            una, state.fact_as_number_or_default("top", 1), 2 if any(_has_fin(it.what) for it in begun.events) else 1
         )
         segments = list(_sent_segments_of(played))
         self._seen = len(segments)
         for start, end in dict.fromkeys((start, end) for _, start, end in segments if end > una):
-            self._send_to_peer(self._now, start, end)
-        return (yield from self._play_rest())
+            self._schedule_arrival_unless_lost(self._now, start, end)
+        return (yield from self._play_calls_irregular_packets_and_end())
 
-    def _play_rest(self) -> InputSteps:
+    def _play_calls_irregular_packets_and_end(self) -> InputSteps:
         """Plays the calls, the irregular packets and the end."""
         for it in self._scenario.acts:
             self._schedule(self._established_at + it.after, it.call)
         for irregular in self._scenario.irregular:
             self._schedule(self._established_at + irregular.after, irregular)
         for _ in range(self._scenario.rounds):
-            if not self._add_due_inputs():
+            if not self._add_inputs_due_within_round_trip():
                 break
-            yield from self._record_and_send()
+            yield from self._record_inputs_and_deliver_segments()
         self._events = [it for it in self._events[:-1] if it.what is not TICK] + self._events[-1:]
-        self._events += self._final_inputs()
-        yield from self._record_and_send()
+        self._events += self._ending_waits_and_write()
+        yield from self._record_inputs_and_deliver_segments()
         return PlayedInputs(self._inputs_so_far(), self._recording)
 
     def _inputs_so_far(self) -> Inputs:
@@ -170,7 +170,7 @@ class _Simulation:
     def _schedule(self, at: int, what: "Call | Packet | IrregularPacket | _Arrival | None") -> None:
         heapq.heappush(self._due, _Due(at, next(self._places), what))
 
-    def _add_due_inputs(self) -> bool:
+    def _add_inputs_due_within_round_trip(self) -> bool:
         """Puts in what is due before the sender could be answered; whether there was anything."""
         while True:
             if not self._due and self._expiry is None:
@@ -187,7 +187,7 @@ class _Simulation:
             put = len(self._events)
             while self._due and self._due[0].at < max(horizon, first + 1):
                 due = heapq.heappop(self._due)
-                self._react_to_due(due)
+                self._handle_due_arrival_ack_or_input(due)
             if len(self._events) > put:
                 return True
 
@@ -201,32 +201,32 @@ class _Simulation:
         begin, end = (self._established_at + it for it in self._scenario.network.outage)
         return end if begin <= at < end else at
 
-    def _react_to_due(self, due: _Due) -> None:
+    def _handle_due_arrival_ack_or_input(self, due: _Due) -> None:
         if isinstance(due.what, _Arrival):
-            if self._peer.take_segment((due.what.start, due.what.end)):
-                self._put_in_ack(due.at)
+            if self._peer.receive_segment_and_decide_ack((due.what.start, due.what.end)):
+                self._add_ack_input_unless_lost(due.at)
             elif self._peer.waiting == 1:
                 self._schedule(due.at + self._scenario.receiver.delay, None)
         elif due.what is None:
             if self._peer.waiting:
-                self._put_in_ack(due.at)
+                self._add_ack_input_unless_lost(due.at)
         elif isinstance(due.what, IrregularPacket):
-            self._add_input(due.at, self._peer.make_irregular_packet(due.what))
+            self._add_input_unless_closed_to_packets(due.at, self._peer.make_irregular_packet_and_count_fin(due.what))
         else:
-            self._add_input(due.at, due.what)
+            self._add_input_unless_closed_to_packets(due.at, due.what)
 
-    def _put_in_ack(self, at: int) -> None:
+    def _add_ack_input_unless_lost(self, at: int) -> None:
         number = self._peer.ack_count
         ack = self._peer.make_ack()
         if number not in self._scenario.network.lost_acks:
-            self._add_input(at, ack)
+            self._add_input_unless_closed_to_packets(at, ack)
 
-    def _add_input(self, at: int, what: Packet | Call) -> None:
+    def _add_input_unless_closed_to_packets(self, at: int, what: Packet | Call) -> None:
         if isinstance(what, Packet) and self._state == "CLOSED" and len(self._events) > len(LISTENING) + 1:
             return  # a closed connection takes no packet
         self._events.append(Input(at, what))
 
-    def _record_and_send(self) -> Generator[Inputs, Recording, None]:
+    def _record_inputs_and_deliver_segments(self) -> Generator[Inputs, Recording, None]:
         """Has what was put in recorded, without what the sender doesn't run, and sends what left to the peer."""
         for _ in range(_TRIES):
             inputs = self._inputs_so_far()
@@ -235,12 +235,12 @@ class _Simulation:
             if place is None:
                 break
             del self._events[place]
-        played = list(played_events(self._recording.text))
+        played = list(parse_played_events(self._recording.text))
         if played:
             self._note_sender_state(played[-1])
         segments = list(_sent_segments_of(played))
         for at, start, end in segments[self._seen :]:
-            self._send_to_peer(at, start, end)
+            self._schedule_arrival_unless_lost(at, start, end)
         self._seen = len(segments)
         self._last_sent = segments[-1][0] if segments else self._now
 
@@ -249,9 +249,9 @@ class _Simulation:
         self._state = state.name
         self._expiry = state.fact_as_moment("expiry")
         self._rto = state.fact_as_moment("RTO")
-        self._now = max(self._events[-1].at, _moment_of_event(last))
+        self._now = max(self._events[-1].at, _event_moment_microseconds(last))
 
-    def _send_to_peer(self, at: int, start: int, end: int) -> None:
+    def _schedule_arrival_unless_lost(self, at: int, start: int, end: int) -> None:
         """Hands a segment to the network."""
         network = self._scenario.network
         number, self._sent = self._sent, self._sent + 1
@@ -261,7 +261,7 @@ class _Simulation:
         takes = network.round_trip + network.more[number % len(network.more)] + network.late.get(number, 0)
         self._schedule(at + takes, _Arrival(start, end))
 
-    def _final_inputs(self) -> Iterator[Input]:
+    def _ending_waits_and_write(self) -> Iterator[Input]:
         """The end: a wait in which expiries show the timer, or after which none could come."""
         ending = self._scenario.ending
         at = max(self._now, self._events[-1].at)
@@ -276,31 +276,31 @@ class _Simulation:
 
 def _handshake_inputs(it: Handshake, window: int) -> Iterator[tuple[int, Call | Packet]]:
     """The handshake, and the accepted connection."""
-    yield SYN_AT, make_inbound_packet("S", 0, None, it.window, it.options)
+    yield SYN_AT, make_dataless_inbound_packet("S", 0, None, it.window, it.options)
     if it.accepts_early:
         yield SYN_AT, ACCEPT
     for irregular in it.irregular:
         yield SYN_AT + irregular.after, _irregular_handshake_packet(irregular)
-    yield SYN_AT + it.takes, make_inbound_packet("F." if it.has_fin else ".", 1, 1, window)
+    yield SYN_AT + it.takes, make_dataless_inbound_packet("F." if it.has_fin else ".", 1, 1, window)
     yield SYN_AT + it.takes, ACCEPT
 
 
 def _irregular_handshake_packet(irregular: IrregularPacket) -> Packet:
     match irregular.kind:
         case Irregularity.OLD_ACK:
-            return make_inbound_packet(".", 1, 0, 1_000)
+            return make_dataless_inbound_packet(".", 1, 0, 1_000)
         case Irregularity.EARLY_ACK:
-            return make_inbound_packet(".", 1, 2 + irregular.number, 1_000)
+            return make_dataless_inbound_packet(".", 1, 2 + irregular.number, 1_000)
         case Irregularity.BARE:
-            return make_inbound_packet("-", 1, None, 1_000)
+            return make_dataless_inbound_packet("-", 1, None, 1_000)
         case Irregularity.RESET:
-            return make_inbound_packet("R", 1, None, 1_000)
+            return make_dataless_inbound_packet("R", 1, None, 1_000)
         case Irregularity.RESET_NEAR:
-            return make_inbound_packet("R", 2 + irregular.number % 100, None, 1_000)
+            return make_dataless_inbound_packet("R", 2 + irregular.number % 100, None, 1_000)
         case Irregularity.BELOW:
-            return make_inbound_packet(".", 0, 1, 1_000)
+            return make_dataless_inbound_packet(".", 0, 1, 1_000)
         case _:
-            return make_inbound_packet(".", 70_000, 1, 1_000)
+            return make_dataless_inbound_packet(".", 70_000, 1, 1_000)
 
 
 def _has_fin(what: Packet | Call) -> bool:
@@ -313,9 +313,9 @@ def _sent_segments_of(played: list[PlayedEvent]) -> Iterator[tuple[int, int, int
         if found := _SENT.match(it.line):
             flags, start, end = found[1], int(found[2]), int(found[3]) + ("F" in found[1])
             if start < end and "S" not in flags:
-                yield _moment_of_event(it), start, end
+                yield _event_moment_microseconds(it), start, end
 
 
-def _moment_of_event(it: PlayedEvent) -> int:
+def _event_moment_microseconds(it: PlayedEvent) -> int:
     whole, _, part = it.moment.partition(".")
     return int(whole) * SECOND + int(part)

@@ -3,7 +3,7 @@
 from collections.abc import Iterator, Mapping, Sequence
 from dataclasses import dataclass, field
 
-from pdsuite.compare.divergence import PlayedEvent, played_events
+from pdsuite.compare.divergence import PlayedEvent, parse_played_events
 from pdsuite.packetdrill.items import SECOND
 
 # How two states differ of which one follows the other: the kind before, what happened, and the kind after.
@@ -19,7 +19,7 @@ class TracedState:
     name: str
     facts: Mapping[str, str] = field(default_factory=dict)
 
-    def fact_as_number(self, name: str, default: int = 0) -> int:
+    def fact_as_number_or_default(self, name: str, default: int = 0) -> int:
         """A fact that is a number, or what holds where there is none."""
         value = self.facts.get(name, "")
         return int(value) if value.isdecimal() else default
@@ -41,22 +41,30 @@ class TracedState:
     @property
     def rough_kind(self) -> str:
         """What kind of state it is: numbers count by their order and by rough sizes alone."""
-        una, top = self.fact_as_number("una"), self.fact_as_number("top")
-        cwnd, flight, rwnd = self.fact_as_number("cwnd"), self.fact_as_number("FlightSize"), self.fact_as_number("rwnd")
+        una, top = self.fact_as_number_or_default("una"), self.fact_as_number_or_default("top")
+        cwnd, flight, rwnd = (
+            self.fact_as_number_or_default("cwnd"),
+            self.fact_as_number_or_default("FlightSize"),
+            self.fact_as_number_or_default("rwnd"),
+        )
         parts = [
             self.name,
             self.facts.get("recovery", ""),
             self.facts.get("connection", ""),
-            str(min(self.fact_as_number("DupAcks"), 3)),
-            _order_sign(cwnd, self.fact_as_number("ssthresh")),
-            _order_sign(flight, cwnd),
-            _order_sign(flight, rwnd) if rwnd else "0",
-            _order_sign(self.fact_as_number("next"), top),
-            _order_sign(top, self.fact_as_number("end")),
+            str(min(self.fact_as_number_or_default("DupAcks"), 3)),
+            _comparison_character(cwnd, self.fact_as_number_or_default("ssthresh")),
+            _comparison_character(flight, cwnd),
+            _comparison_character(flight, rwnd) if rwnd else "0",
+            _comparison_character(self.fact_as_number_or_default("next"), top),
+            _comparison_character(top, self.fact_as_number_or_default("end")),
             str(min(flight // _SEGMENT, 4)) if flight else "none",
             "runs" if self.fact_as_moment("expiry") is not None else "stopped",
-            _order_sign(self.fact_as_number("pipe"), cwnd) if "pipe" in self.facts else "",
-            _order_sign(self.fact_as_number("prr_delivered"), self.fact_as_number("prr_out")) if una < top else "",
+            _comparison_character(self.fact_as_number_or_default("pipe"), cwnd) if "pipe" in self.facts else "",
+            _comparison_character(
+                self.fact_as_number_or_default("prr_delivered"), self.fact_as_number_or_default("prr_out")
+            )
+            if una < top
+            else "",
         ]
         return " ".join(parts)
 
@@ -92,7 +100,7 @@ def states_before_inputs(played: Sequence[PlayedEvent]) -> list[TracedState]:
 def state_steps_in(recording: str) -> Iterator[StateStep]:
     """The steps of a recording: each from one kind of state to another, or on which a packet leaves."""
     before = kind = last = ""
-    for it in played_events(recording):
+    for it in parse_played_events(recording):
         # Most events leave the state as it is, and to find its kind costs most here.
         if it.state != last:
             kind, last = parse_state(it.state).rough_kind, it.state
@@ -112,5 +120,5 @@ def _rough_event_name(it: PlayedEvent) -> str:
     return words[1].partition("(")[0] if len(words) > 1 else ""
 
 
-def _order_sign(one: int, other: int) -> str:
+def _comparison_character(one: int, other: int) -> str:
     return "<" if one < other else "=" if one == other else ">"

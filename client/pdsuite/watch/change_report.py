@@ -26,19 +26,19 @@ class ChangeReport:
 
     def first_report(self, outcomes: Outcomes, every: bool, seconds: float) -> StyledText:
         """Each script that doesn't pass, or every script; then the totals."""
-        return entries_of(outcomes.values(), every).append_text(self.totals_line(outcomes, seconds))
+        return render_script_entries(outcomes.values(), every).append_text(self.totals_line(outcomes, seconds))
 
-    def folder_moves(
+    def folder_moves_if_report_shows_them(
         self, before: Outcomes, after: Outcomes, had: Mapping[str, WantedScript], has: Mapping[str, WantedScript]
     ) -> Sequence[Move]:
         """The folders that are reported to have moved."""
         return ()
 
-    def report_head(self) -> StyledText:
+    def time_of_day_head_if_any(self) -> StyledText:
         """What stands before a report that isn't the first."""
         return StyledText()
 
-    def changed_rows(self, before: Outcomes, after: Outcomes, moves: Sequence[Move]) -> StyledText:
+    def render_changed_and_gone_rows(self, before: Outcomes, after: Outcomes, moves: Sequence[Move]) -> StyledText:
         """The rows that changed, without their explanations: first of those that don't pass, last what went."""
         form = PlainFormatter(True)
         text = StyledText()
@@ -50,7 +50,7 @@ class ChangeReport:
 
     def changed_explanations(self, before: Outcomes, after: Outcomes, moves: Sequence[Move]) -> StyledText:
         """The explanations of the rows that changed, and of others where they are others."""
-        return entries_of(newly_explained_outcomes(before, after), False)
+        return render_script_entries(outcomes_with_new_row_or_explanation(before, after), False)
 
     def turned_entries(self, scripts: Sequence[ComparedScript]) -> StyledText:
         """The scripts that another sender turned."""
@@ -61,9 +61,9 @@ class ChangeReport:
 
     def totals_line(self, outcomes: Outcomes, seconds: float) -> StyledText:
         """The totals."""
-        return PlainFormatter(True).summary(totals_of(outcomes, self.is_unproved), seconds)
+        return PlainFormatter(True).totals_after_scripts(totals_of(outcomes, self.is_unproved), seconds)
 
-    def sender_left_notice(self, why: str) -> StyledText:
+    def outdated_sender_notice(self, why: str) -> StyledText:
         """That the sender doesn't stand any more of which all rows are, and why."""
         return StyledText([(f"{_LEFT}\n  {why}\n", "dim")])
 
@@ -105,16 +105,16 @@ def gone_row(path: str) -> StyledText:
     return StyledText([(f"{printable_path(path)}: ", "")]).append("gone\n", "dim")
 
 
-def newly_explained_outcomes(before: Outcomes, after: Outcomes) -> list[ScriptOutcome]:
+def outcomes_with_new_row_or_explanation(before: Outcomes, after: Outcomes) -> list[ScriptOutcome]:
     """The outcomes of which something is to be shown: their rows changed, or their explanations did."""
-    return [it for path, it in after.items() if _is_newly_explained(before.get(path), it)]
+    return [it for path, it in after.items() if _has_new_row_or_explanation(before.get(path), it)]
 
 
-def entries_of(outcomes: Iterable[ScriptOutcome], every: bool) -> StyledText:
+def render_script_entries(outcomes: Iterable[ScriptOutcome], every: bool) -> StyledText:
     form = PlainFormatter(every)
     text = StyledText()
     for number, outcome in enumerate(outcomes, 1):
-        if (entry := form.script_entry(number, outcome)) is not None:
+        if (entry := form.streamed_script_entry_or_none(number, outcome)) is not None:
             text.append_text(entry)
     return text
 
@@ -133,7 +133,7 @@ def _is_shown_otherwise(old: ScriptOutcome, new: ScriptOutcome) -> bool:
     )
 
 
-def _is_newly_explained(old: ScriptOutcome | None, new: ScriptOutcome) -> bool:
+def _has_new_row_or_explanation(old: ScriptOutcome | None, new: ScriptOutcome) -> bool:
     if new.row.line is None:
         return False
     if old is None or _is_shown_otherwise(old, new):

@@ -33,14 +33,14 @@ def folder_moves_between(
     gone, come = _folders_only_in(before, after), _folders_only_in(after, before)
     if not gone or not come:
         return []
-    stay, were = _folders_above_scripts(after), _folders_above_scripts(before)
+    stay, were = _set_of_folders_above(after), _set_of_folders_above(before)
     pairs: dict[tuple[str, str], dict[str, str]] = defaultdict(dict)
-    for old, new in _pair_alike_folders(gone, come):
+    for old, new in _pair_folders_by_script_names(gone, come):
         scripts = {os.path.join(old, name): os.path.join(new, name) for name in sorted(gone[old])}
         if all(
             _wanted_octets(wanted_before, it) == _wanted_octets(wanted_after, other) for it, other in scripts.items()
         ):
-            pairs[_topmost_moved_folders(old, new, stay, were)].update(scripts)
+            pairs[_topmost_moved_pair_above(old, new, stay, were)].update(scripts)
     return [Move(old, new, scripts) for (old, new), scripts in sorted(pairs.items())]
 
 
@@ -56,7 +56,7 @@ def _folders_only_in(these: Outcomes, others: Outcomes) -> _Folders:
     return {folder: frozenset(names) for folder, names in folders.items()}
 
 
-def _folders_above_scripts(outcomes: Outcomes) -> set[str]:
+def _set_of_folders_above(outcomes: Outcomes) -> set[str]:
     """All folders that scripts lie in or below."""
     folders: set[str] = set()
     for folder in {os.path.dirname(path) for path in outcomes}:
@@ -66,16 +66,16 @@ def _folders_above_scripts(outcomes: Outcomes) -> set[str]:
     return folders
 
 
-def _pair_alike_folders(gone: _Folders, come: _Folders) -> Iterator[tuple[str, str]]:
+def _pair_folders_by_script_names(gone: _Folders, come: _Folders) -> Iterator[tuple[str, str]]:
     """The folders that went and came with the same scripts; where these are several, with the same name too."""
-    came = _group_folders_by_key(come, lambda folder: (come[folder], ""))
-    named = _group_folders_by_key(come, lambda folder: (come[folder], os.path.basename(folder)))
-    for (names, _), olds in _group_folders_by_key(gone, lambda folder: (gone[folder], "")).items():
+    came = _folders_by_given_key(come, lambda folder: (come[folder], ""))
+    named = _folders_by_given_key(come, lambda folder: (come[folder], os.path.basename(folder)))
+    for (names, _), olds in _folders_by_given_key(gone, lambda folder: (gone[folder], "")).items():
         arrivals = came.get((names, ""), [])
         if len(olds) == len(arrivals) == 1:
             yield olds[0], arrivals[0]
             continue
-        for key, again in _group_folders_by_key(olds, lambda folder: (names, os.path.basename(folder))).items():
+        for key, again in _folders_by_given_key(olds, lambda folder: (names, os.path.basename(folder))).items():
             if len(again) == len(named.get(key, [])) == 1:
                 yield again[0], named[key][0]
 
@@ -83,14 +83,14 @@ def _pair_alike_folders(gone: _Folders, come: _Folders) -> Iterator[tuple[str, s
 _Key = tuple[frozenset[str], str]
 
 
-def _group_folders_by_key(folders: Iterable[str], key_of: Callable[[str], _Key]) -> dict[_Key, list[str]]:
+def _folders_by_given_key(folders: Iterable[str], key_of: Callable[[str], _Key]) -> dict[_Key, list[str]]:
     found: dict[_Key, list[str]] = defaultdict(list)
     for folder in folders:
         found[key_of(folder)].append(folder)
     return found
 
 
-def _topmost_moved_folders(old: str, new: str, stay: Set[str], were: Set[str]) -> tuple[str, str]:
+def _topmost_moved_pair_above(old: str, new: str, stay: Set[str], were: Set[str]) -> tuple[str, str]:
     """The folders above two, below which both have the same path, as far as the one is gone and the other new."""
     while os.path.basename(old) == os.path.basename(new):
         above, beyond = os.path.dirname(old), os.path.dirname(new)

@@ -16,11 +16,11 @@ from pdsuite.watch.watched_files import (
     GRACE,
     WatchedFile,
     WatchedFiles,
-    has_script_changed,
-    read_watched_file,
-    update_from_seen,
+    has_any_script_changed,
+    read_watched_file_returning_whether_torn,
+    update_holding_back_gone_and_torn,
 )
-from pdsuite.watch.watched_files import read_watched_files
+from pdsuite.watch.watched_files import reread_changed_watched_files
 from pdsuite.watch.watcher import FileEvent, FileEventKind, Watcher
 
 # The folders are walked so often, and so soon after the last event, at the latest a period after the first one.
@@ -55,7 +55,7 @@ class Folders:
         self.files: WatchedFiles = {}
         self._choice = choice
         self._settings_files = settings_files
-        self._suite = settings_files.suite()
+        self._suite = settings_files.make_suite_config()
         self._watcher = watcher
         self._stop = stop
         self._note = note
@@ -72,7 +72,7 @@ class Folders:
         self._is_first = True
 
     @property
-    def suite(self) -> SuiteConfig:
+    def current_suite_config(self) -> SuiteConfig:
         """What holds for scripts, by the settings files as they are known now."""
         return self._suite
 
@@ -80,7 +80,7 @@ class Folders:
         """The moment at which something has to be looked at, whatever is reported."""
         return min([self._walk_at, self._quiet_at, *self._again.values()])
 
-    def wanted_and_unfit(self) -> tuple[dict[str, WantedScript], dict[str, str]]:
+    def wanted_scripts_and_unfit_reasons(self) -> tuple[dict[str, WantedScript], dict[str, str]]:
         """The scripts that are to be run, and for all others why they can't."""
         wanted: dict[str, WantedScript] = {}
         unfit: dict[str, str] = {}
@@ -103,9 +103,9 @@ class Folders:
     def recheck_settings(self) -> None:
         """Has the settings files checked anew, as another sender may read them otherwise."""
         self._settings_files.recheck_all_files()
-        self._suite = self._settings_files.suite()
+        self._suite = self._settings_files.make_suite_config()
 
-    def take_in_events(self, events: Sequence[FileEvent], now: float) -> bool:
+    def take_in_events_and_report_change(self, events: Sequence[FileEvent], now: float) -> bool:
         """Takes in what is reported and what is due; whether anything is other than it was."""
         paths = {path for path, moment in self._again.items() if moment <= now}
         for path in paths:
@@ -113,17 +113,17 @@ class Folders:
         closed = {(it.folder, it.name) for it in events if it.kind is FileEventKind.CLOSED}
         is_walk = now >= min(self._walk_at, self._quiet_at)
         for event in events:
-            is_walk |= self._note_event(event, paths, now)
+            is_walk |= self._note_event_returning_whether_walk_needed(event, paths, now)
         if events:
             self._busy_since = now if self._busy_since is None else self._busy_since
             self._quiet_at = min(self._busy_since + _PERIOD, now + _QUIET)
-        seen = {path: self._read_file_again(path, closed) for path in paths if path in self.files}
+        seen = {path: self._freshly_read_file(path, closed) for path in paths if path in self.files}
         # What is gone, or new, is only known when all has been looked at.
         if is_walk or len(seen) < len(paths) or any(it.is_gone for it in seen.values()):
             return self._walk_and_schedule(closed, now)
-        return bool(seen) and self._apply_seen_files({**self.files, **seen}, now)
+        return bool(seen) and self._apply_seen_files_returning_whether_changed({**self.files, **seen}, now)
 
-    def _note_event(self, event: FileEvent, paths: set[str], now: float) -> bool:
+    def _note_event_returning_whether_walk_needed(self, event: FileEvent, paths: set[str], now: float) -> bool:
         """Notes what an event is about; whether all has to be looked at for it."""
         path = self._places.get((event.folder, event.name))
         if event.kind is FileEventKind.FOLDER:
@@ -138,35 +138,37 @@ class Folders:
             self._gone = {path: now, **self._gone}
         return False
 
-    def _read_file_again(self, path: str, closed: Set[tuple[str, str]]) -> WatchedFile:
+    def _freshly_read_file(self, path: str, closed: Set[tuple[str, str]]) -> WatchedFile:
         known = self.files[path]
-        return read_watched_file(known.found, known, (known.found.folder, known.found.name) in closed)
+        return read_watched_file_returning_whether_torn(
+            known.found, known, (known.found.folder, known.found.name) in closed
+        )
 
     def _walk_and_schedule(self, closed: Set[tuple[str, str]], now: float) -> bool:
         """Looks at all there is, with what was closed just now, and says when it is to be done again."""
         self._walk_at = self._quiet_at = inf
         self._busy_since = None
         begin = process_time()
-        is_other = self._walk_folders(closed, now)
+        is_other = self._reread_all_returning_whether_changed(closed, now)
         if not is_other:
             # What is read anew takes longer, and is no measure of the next walk.
             self._period = max(_PERIOD, _TIMES * (process_time() - begin))
         self._walk_at = min(self._walk_at, now + self._period)
         return is_other
 
-    def _walk_folders(self, closed: Set[tuple[str, str]], now: float) -> bool:
+    def _reread_all_returning_whether_changed(self, closed: Set[tuple[str, str]], now: float) -> bool:
         scripts = self._find_and_watch_scripts()
-        has_changed, is_torn = self._settings_files.reread_changed_files()
+        has_changed, is_torn = self._settings_files.reread_files_returning_whether_changed_or_torn()
         if has_changed:
-            self._suite = self._settings_files.suite()
+            self._suite = self._settings_files.make_suite_config()
         if is_torn:
             self._walk_at = now + GRACE
         self._places = {(it.folder, it.name): it.path for it in scripts}
-        files = read_watched_files(scripts, self.files, closed)
+        files = reread_changed_watched_files(scripts, self.files, closed)
         is_first, self._is_first = self._is_first, False
         if is_first:
             self.files = files
-        is_other = self._apply_seen_files(files, now)
+        is_other = self._apply_seen_files_returning_whether_changed(files, now)
         self._report_unused_tables()
         return is_other or has_changed or is_first
 
@@ -175,7 +177,7 @@ class Folders:
         for _ in range(_TRIES):
             finding = find_scripts_and_folders(self._choice.paths, self._choice.only, self._stop)
             folders = finding.folders | self._settings_files.folders_with_files()
-            self._report_watch_limit(self._watcher.watch_folders(folders))
+            self._report_watch_limit(self._watcher.watch_folders_or_return_limit(folders))
             self._settings_files.read_new_folders(finding.folders)
             is_known = folders <= self._watched
             self._watched = folders
@@ -183,19 +185,19 @@ class Folders:
                 break
         return finding.scripts
 
-    def _apply_seen_files(self, seen: WatchedFiles, now: float) -> bool:
-        update = update_from_seen(self.files, seen, self._gone, now)
+    def _apply_seen_files_returning_whether_changed(self, seen: WatchedFiles, now: float) -> bool:
+        update = update_holding_back_gone_and_torn(self.files, seen, self._gone, now)
         self._gone = update.gone
         self._again.update(dict.fromkeys(update.torn, now + GRACE))
         if any(path not in seen or seen[path].is_gone for path in update.gone):
             self._walk_at = min(self._walk_at, now + GRACE)
         before, self.files = self.files, update.files
-        return has_script_changed(before, self.files)
+        return has_any_script_changed(before, self.files)
 
     def _report_unused_tables(self) -> None:
         """Reports tables whose scripts aren't there, each once while that is so."""
         held = {(it.folder, it.name) for it in (self.files[path].found for path in self._gone if path in self.files)}
-        unused = self._settings_files.unused_table_warnings(held)
+        unused = self._settings_files.unused_table_lines_to_print(held)
         for line in unused:
             if line not in self._unused:
                 self._note(f"{line}; all else in the file counts")

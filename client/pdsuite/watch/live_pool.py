@@ -7,8 +7,8 @@ from pdsuite.output.octets import printable_path
 from pdsuite.programs.program import ProgramEndedError
 from pdsuite.programs.protocol import Cause
 from pdsuite.programs.verdict import Row, Verdict
-from pdsuite.run.batches import PIECE_SIZE, Batch, SuiteScript, split_by_size
-from pdsuite.run.explainer import with_explanation
+from pdsuite.run.batches import PIECE_SIZE, Batch, SuiteScript, split_into_chunks_of_size
+from pdsuite.run.explainer import outcome_explained_by_cause
 from pdsuite.run.outcomes import ScriptOutcome
 from pdsuite.run.run_batches import SettledPiece, Start, UnexplainedScript, run_batch
 from pdsuite.scripts.settings import Settings
@@ -57,7 +57,7 @@ class LivePool:
         """The runs as they are now."""
         return tuple(self._runs)
 
-    def hold_wanted_scripts(self, wanted: Mapping[str, WantedScript]) -> None:
+    def update_runs_to_wanted_scripts(self, wanted: Mapping[str, WantedScript]) -> None:
         """Brings the runs to hold what is wanted."""
         self._not_run = {
             path: it for path, it in self._not_run.items() if it.is_lasting and wanted.get(path) == it.wanted
@@ -66,14 +66,14 @@ class LivePool:
         before = self.runs
         for change in plan_changes([it.contents for it in before], fit):
             self._show_running(_running_words(change))
-            self._make_change(None if change.run is None else before[change.run], change)
+            self._apply_change_or_restart_run(None if change.run is None else before[change.run], change)
 
     def restart_ended_runs(self) -> bool:
         """Begins anew what has ended by itself; whether anything had."""
         ended = False
         for run in self.runs:
             try:
-                run.program.require_idle()
+                run.program.require_alive_and_silent()
             except ProgramEndedError as end:
                 ended = True
                 self._restart_run(run, run.contents, str(end))
@@ -102,16 +102,16 @@ class LivePool:
         """The explanations of scripts by keys, by their paths."""
         return {path: it for run in self._runs for path, it in run.causes.items()}
 
-    def explain(self, outcome: ScriptOutcome, wanted: WantedScript) -> ScriptOutcome:
+    def outcome_with_explanation(self, outcome: ScriptOutcome, wanted: WantedScript) -> ScriptOutcome:
         """An outcome with its explanation."""
         causes = (run.causes[outcome.path] for run in self._runs if outcome.path in run.causes)
-        return with_explanation(outcome, next(causes, None), wanted.text)
+        return outcome_explained_by_cause(outcome, next(causes, None), wanted.text)
 
-    def steps_by_path(self) -> Mapping[str, int]:
+    def step_counts_by_path(self) -> Mapping[str, int]:
         """How many steps scripts took that ran at the last change, by their paths."""
         return {path: it for run in self._runs for path, it in run.steps.items()}
 
-    def _make_change(self, run: LiveRun | None, change: RunChange) -> None:
+    def _apply_change_or_restart_run(self, run: LiveRun | None, change: RunChange) -> None:
         if run is not None and not change.after.texts:
             self._end_run(run)
             return
@@ -119,7 +119,7 @@ class LivePool:
             if run is None:
                 self._start_run(change.after, len(self._runs))
             else:
-                run.carry_out_acts(change.acts, change.after)
+                run.carry_out_acts_and_update_results(change.acts, change.after)
         except ProgramEndedError as end:
             self._restart_run(run, change.after, str(end))
 
@@ -127,7 +127,9 @@ class LivePool:
         """Starts a run that holds this, as the one with this number."""
         run = LiveRun(contents.settings, self._start)
         try:
-            run.carry_out_acts([AddScript(path, text) for path, text in contents.texts.items()], contents)
+            run.carry_out_acts_and_update_results(
+                [AddScript(path, text) for path, text in contents.texts.items()], contents
+            )
         except BaseException:
             run.program.kill_and_close()
             raise
@@ -147,9 +149,9 @@ class LivePool:
         try:
             self._start_run(contents, place)
         except ProgramEndedError:
-            self._restart_without_fatal(contents, place)
+            self._restart_without_fatal_scripts(contents, place)
 
-    def _restart_without_fatal(self, contents: RunContents, place: int) -> None:
+    def _restart_without_fatal_scripts(self, contents: RunContents, place: int) -> None:
         """Finds the scripts on which a run ends, and starts one with all others."""
         rows = self._find_fatal_scripts(contents)
         rest = {path: text for path, text in contents.texts.items() if path not in rows}
@@ -169,7 +171,7 @@ class LivePool:
         except ProgramEndedError:
             return False
         try:
-            run.carry_out_acts([], run.contents)
+            run.carry_out_acts_and_update_results([], run.contents)
         except ProgramEndedError:
             return False
         finally:
@@ -179,7 +181,7 @@ class LivePool:
     def _find_fatal_scripts(self, contents: RunContents) -> dict[str, Row]:
         """The scripts on which a run ends twice, as `pdsuite run` finds them, each with its row."""
         scripts = [SuiteScript(index, path, contents.settings) for index, path in enumerate(contents.texts)]
-        batch = Batch(contents.settings, tuple(split_by_size(scripts, PIECE_SIZE)))
+        batch = Batch(contents.settings, tuple(split_into_chunks_of_size(scripts, PIECE_SIZE)))
         unexplained: set[str] = set()
         rows: dict[str, Row] = {}
         for step in run_batch(batch, self._start, lambda script: contents.texts[script.path], self._plain_start):

@@ -8,11 +8,11 @@ from pdsuite.programs.protocol import LONGEST_CAUSE, LONGEST_LINE, SETTLE, Cause
 from pdsuite.programs.protocol import (
     add_command,
     edit_command,
-    parse_causes,
+    parse_causes_by_script_and_line,
     parse_new_rows,
-    parse_step_counts,
+    parse_step_counts_by_script,
     remove_command,
-    script_name,
+    script_name_of_number,
     set_command,
 )
 from pdsuite.programs.verdict import Row
@@ -42,24 +42,24 @@ class LiveRun:
         self._names: dict[str, bytes] = {}
         self._count = 0
 
-    def carry_out_acts(self, acts: Sequence[Act], after: RunContents) -> None:
+    def carry_out_acts_and_update_results(self, acts: Sequence[Act], after: RunContents) -> None:
         """Has the program hold something else, and settles it."""
-        commands = b"".join(self._command_of_act(it) for it in acts)
+        commands = b"".join(self._command_of_act_updating_names(it) for it in acts)
         names = list(self._names.values())
         longest = LONGEST_LINE * (len(acts) + len(names) + 2)
         answer, errors = self.program.query_with_errors(commands + SETTLE, longest, LONGEST_CAUSE * (len(names) + 1))
         try:
             rows = parse_new_rows(answer, b"", names, len(names))
-            causes = {name: it for (name, _), it in parse_causes(errors).items()}
+            causes = {name: it for (name, _), it in parse_causes_by_script_and_line(errors).items()}
         except UnexpectedAnswerError as unexpected:
             raise ProgramEndedError(f"pdregress: {unexpected}") from unexpected
         self.rows = dict(zip(self._names, rows))
         self.contents = after
         self.acts += sum(1 + _PER_JOB * (len(names) if isinstance(it, SetKey) else 1) for it in acts)
-        self._update_causes(acts, self._key_by_paths(causes))
-        self.steps = self._key_by_paths(parse_step_counts(errors))
+        self._update_causes_of_rerun_scripts(acts, self._key_by_paths(causes))
+        self.steps = self._key_by_paths(parse_step_counts_by_script(errors))
 
-    def _update_causes(self, acts: Sequence[Act], causes: Mapping[str, Cause]) -> None:
+    def _update_causes_of_rerun_scripts(self, acts: Sequence[Act], causes: Mapping[str, Cause]) -> None:
         """Takes the explanations of the scripts that have run again; any other keeps the one before."""
         for it in acts:
             if isinstance(it, SetKey):
@@ -72,7 +72,7 @@ class LiveRun:
         paths = {name: path for path, name in self._names.items()}
         return {paths[name]: it for name, it in each.items() if name in paths}
 
-    def _command_of_act(self, act: Act) -> bytes:
+    def _command_of_act_updating_names(self, act: Act) -> bytes:
         match act:
             case RemoveScript(path):
                 return remove_command(self._names.pop(path))
@@ -81,6 +81,6 @@ class LiveRun:
             case EditScript(path, change):
                 return edit_command(self._names[path], change)
             case AddScript(path, text):
-                self._names[path] = name = script_name(self._count)
+                self._names[path] = name = script_name_of_number(self._count)
                 self._count += 1
                 return add_command(name, text)

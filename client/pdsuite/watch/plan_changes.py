@@ -5,7 +5,7 @@ from collections.abc import Iterator, Mapping, Sequence
 from dataclasses import dataclass
 
 from pdsuite.run.batches import BATCH_SIZE
-from pdsuite.scripts.defaults import can_switch_settings, changed_settings
+from pdsuite.scripts.defaults import has_default_for_each_dropped_setting, settings_changed_between
 from pdsuite.scripts.settings import Settings, set_command_words
 from pdsuite.scripts.text import ScriptText
 from pdsuite.scripts.text_edit import Edit, edit_between
@@ -74,7 +74,7 @@ def plan_changes(runs: Sequence[RunContents], wanted: Mapping[str, WantedScript]
 
     A script stays in its run while that has its settings; any other goes to the first run with room.
     """
-    targets = _target_settings(runs, wanted)
+    targets = _target_settings_of_each_run(runs, wanted)
     after: list[RunContents] = []
     placed: set[str] = set()
     for run, target in zip(runs, targets):
@@ -108,12 +108,14 @@ def _place_in_runs(scripts: Mapping[str, WantedScript], runs: list[RunContents])
         having[0][path] = it.text
 
 
-def _target_settings(runs: Sequence[RunContents], wanted: Mapping[str, WantedScript]) -> list[Settings | None]:
+def _target_settings_of_each_run(
+    runs: Sequence[RunContents], wanted: Mapping[str, WantedScript]
+) -> list[Settings | None]:
     """The settings that each run is to have: those of most of its scripts, if that takes no run too many.
 
     A run that can't be given them has none, and ends.
     """
-    choices = [_settings_by_frequency(run, wanted) for run in runs]
+    choices = [_run_settings_by_frequency(run, wanted) for run in runs]
     need = {
         settings: -(-count // BATCH_SIZE) for settings, count in Counter(it.settings for it in wanted.values()).items()
     }
@@ -123,14 +125,18 @@ def _target_settings(runs: Sequence[RunContents], wanted: Mapping[str, WantedScr
     for number in sorted(range(len(runs)), key=lambda it: choices[it][:1] != [runs[it].settings]):
         for settings in choices[number]:
             before = runs[number].settings
-            if settings == before or having[settings] < need[settings] and can_switch_settings(before, settings):
+            if (
+                settings == before
+                or having[settings] < need[settings]
+                and has_default_for_each_dropped_setting(before, settings)
+            ):
                 targets[number] = settings
                 having[settings] += 1
                 break
     return targets
 
 
-def _settings_by_frequency(run: RunContents, wanted: Mapping[str, WantedScript]) -> list[Settings]:
+def _run_settings_by_frequency(run: RunContents, wanted: Mapping[str, WantedScript]) -> list[Settings]:
     """The settings that a run's scripts are to have: those of most scripts first, and of equally many its own."""
     counts = Counter(wanted[path].settings for path in run.texts if path in wanted)
     return sorted(counts, key=lambda it: (-counts[it], it != run.settings))
@@ -149,7 +155,8 @@ def _remove_acts(old: RunContents, new: RunContents) -> Iterator[RemoveScript]:
 def _set_key_acts(old: RunContents, new: RunContents) -> Iterator[SetKey]:
     if old.settings != new.settings:
         yield from (
-            SetKey(*set_command_words(key, value)) for key, value in changed_settings(old.settings, new.settings)
+            SetKey(*set_command_words(key, value))
+            for key, value in settings_changed_between(old.settings, new.settings)
         )
 
 

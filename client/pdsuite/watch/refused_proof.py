@@ -5,9 +5,9 @@ from collections.abc import Iterator, Mapping, Sequence
 from pathlib import Path
 
 from pdsuite.faults import Fault
-from pdsuite.file_stamps import Stamp, are_stamps_current, stamp_of
+from pdsuite.file_stamps import Stamp, are_stamps_current, stamp_or_errno_of_file
 from pdsuite.output.octets import printable_octets
-from pdsuite.scripts.text import UnfitTextError, read_regular_file
+from pdsuite.scripts.text import UnfitTextError, read_regular_file_up_to_limit
 
 # What ./prove leaves where a proof is refused, and takes away when it begins.
 _FILE = "crates/pdregress/out/refused"
@@ -26,24 +26,26 @@ class RefusedProof:
         self._named: Mapping[str, Stamp] = {}
         self.lines: Sequence[str] = ()  # its lines
 
-    def reread_lines(self) -> bool:
+    def reread_lines_returning_whether_changed(self) -> bool:
         """Whether its lines are others than at the last look."""
         before, stamp = self.lines, self._file_stamp()
         if stamp != self._stamp:
             self._stamp = stamp
             self.lines = tuple(self._read_lines())
-            self._named = {path: stamp_of(path) for line in self.lines for path in _PLACE.findall(line)}
+            self._named = {path: stamp_or_errno_of_file(path) for line in self.lines for path in _PLACE.findall(line)}
         elif not are_stamps_current(self._named):
             self.lines, self._named = (), {}
         return self.lines != before
 
     def _file_stamp(self) -> Stamp:
-        return (_NONE,) if self._file is None else stamp_of(self._file)
+        return (_NONE,) if self._file is None else stamp_or_errno_of_file(self._file)
 
     def _read_lines(self) -> Iterator[str]:
         if self._file is None or len(self._stamp) == _NONE:
             return
         try:
-            yield from (printable_octets(line) for line in read_regular_file(self._file, _LONGEST).splitlines())
+            yield from (
+                printable_octets(line) for line in read_regular_file_up_to_limit(self._file, _LONGEST).splitlines()
+            )
         except (Fault, UnfitTextError):
             return

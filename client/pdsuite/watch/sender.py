@@ -41,7 +41,7 @@ class LiveSender:
         return self.regress.path, None if self.record is None else self.record.path
 
     @property
-    def are_programs_there(self) -> bool:
+    def are_program_files_unchanged(self) -> bool:
         """Whether the programs can be started still."""
         return all(it is None or it.is_file_unchanged for it in (self.regress, self.record))
 
@@ -89,22 +89,24 @@ class SenderFollower:
         """What is built, and for how long."""
         return "" if self._building is None else f"{self.build_phase} {self._building.phase_seconds:.0f} s"
 
-    def look_for_sender(self, now: float) -> bool:
+    def update_sender_returning_whether_changed(self, now: float) -> bool:
         """Looks at what stands; whether that is other than it was."""
         before = self.sender, self.reason, self.failure
         if self._building is not None and not are_stamps_current(self._sources or {}):
             self._end_build()  # before any query, which takes longer
-        found = self._look.current_programs()
+        found = self._look.current_programs_or_faults()
         missing = [str(it) for name in self._needs if isinstance(it := found[name], Fault)]
         regress, record = found[REGRESS], found[RECORD]
         if isinstance(regress, StampedProgram) and not missing:
             self._end_build()
             self._sources, self.failure = None, ()
-            self._set_sender(LiveSender(regress, record if isinstance(record, StampedProgram) else None))
+            self._set_sender_clearing_reason(
+                LiveSender(regress, record if isinstance(record, StampedProgram) else None)
+            )
         elif self.tree is None:
-            self._keep_sender_before(missing[0])
+            self._keep_old_sender_if_programs_remain(missing[0])
         else:
-            self._follow_sources(self.tree, now)
+            self._advance_build_and_set_sender(self.tree, now)
         return before != (self.sender, self.reason, self.failure)
 
     def folders_to_watch(self) -> set[str]:
@@ -115,20 +117,20 @@ class SenderFollower:
         """The moment at which it is to be looked again, whatever is reported."""
         return now + _SECOND if self._building is not None else self._quiet_at
 
-    def filenos(self) -> list[int]:
+    def build_output_filenos(self) -> list[int]:
         """What can be read once a build has something to say."""
         return [] if self._building is None else [self._building.fileno()]
 
-    def _set_sender(self, sender: LiveSender) -> None:
+    def _set_sender_clearing_reason(self, sender: LiveSender) -> None:
         self.sender, self.reason = sender, ""
 
-    def _keep_sender_before(self, reason: str) -> None:
+    def _keep_old_sender_if_programs_remain(self, reason: str) -> None:
         """Goes on with the sender before, if it is there still."""
         self.reason = reason
-        if self.sender is not None and not self.sender.are_programs_there:
+        if self.sender is not None and not self.sender.are_program_files_unchanged:
             self.sender = None
 
-    def _follow_sources(self, tree: Path, now: float) -> None:
+    def _advance_build_and_set_sender(self, tree: Path, now: float) -> None:
         """Has a sender built of the sources as they are now; a change of these ends what is built."""
         sources = self._look.source_stamps()
         if sources != self._sources:
@@ -136,15 +138,15 @@ class SenderFollower:
             self._quiet_at = now if self._sources is None and self.sender is None else now + _QUIET
             self._sources, self._built, self.failure = sources, None, ()
         if self._built is None and not self.failure:
-            self._advance_build(tree, now)
-        if self._built is not None and self._built.are_programs_there:
-            self._set_sender(self._built)
+            self._start_build_or_take_its_result(tree, now)
+        if self._built is not None and self._built.are_program_files_unchanged:
+            self._set_sender_clearing_reason(self._built)
             return
         if self._built is not None:
             self._built, self._quiet_at = None, now  # it was taken away, and is built anew
-        self._keep_sender_before(_REFUSED if self.failure else _BUILDING)
+        self._keep_old_sender_if_programs_remain(_REFUSED if self.failure else _BUILDING)
 
-    def _advance_build(self, tree: Path, now: float) -> None:
+    def _start_build_or_take_its_result(self, tree: Path, now: float) -> None:
         """Begins a build where it is time, or reads how the one goes on."""
         if self._building is None and now >= self._quiet_at:
             self._quiet_at = inf
@@ -155,7 +157,7 @@ class SenderFollower:
         if not self._building.is_over:
             return
         try:
-            folder = self._building.programs_folder()
+            folder = self._building.wait_and_require_programs_folder()
             self._built = LiveSender(stamped_program(folder / REGRESS), stamped_program(folder / RECORD), False)
         except BuildError as untried:
             self.failure = tuple(str(untried).splitlines())

@@ -11,13 +11,13 @@ from pdsuite.output.screen import Screen
 from pdsuite.programs.lookup import SenderChangedError
 from pdsuite.programs.program import Program
 from pdsuite.programs.protocol import Cause
-from pdsuite.programs.refusals import refusal_lines
+from pdsuite.programs.refusals import query_refusal_lines
 from pdsuite.programs.verdict import Row, Verdict
 from pdsuite.run.batches import BATCH_SIZE
 from pdsuite.run.explainer import EXPLAIN_OPTIONS
 from pdsuite.run.outcomes import ScriptOutcome
 from pdsuite.run.run_batches import starter_with_options, starter_without_explanations
-from pdsuite.scripts.config import Claim, Layer, claims_of_layers
+from pdsuite.scripts.config import Claim, Layer, every_claim_of_layers
 from pdsuite.scripts.settings import Settings
 from pdsuite.scripts.text import ScriptText
 from pdsuite.signals import Stop
@@ -86,33 +86,33 @@ class Session:
         self._runs = held.enter_context(ExitStack())
         self._watcher = held.enter_context(Watcher())
         self._sources = held.enter_context(Watcher())
-        settings_files = SettingsFiles(watched.option, self._refusal_lines, screen.print_note)
-        self._folders = Folders(watched.choice, settings_files, self._watcher, stop, screen.print_note)
+        settings_files = SettingsFiles(watched.option, self._refused_claim_lines, screen.print_note_on_stderr)
+        self._folders = Folders(watched.choice, settings_files, self._watcher, stop, screen.print_note_on_stderr)
 
     def follow_changes(self) -> NoReturn:
         """Shows what changes, on and on, until a signal comes."""
         while True:
             try:
-                self._look_for_sender()
+                self._look_for_sender_and_switch()
                 self._rerun_and_show()
             except SenderChangedError:
                 continue  # the next look says what stands
-            self._wait_for_next()
+            self._wait_for_event_or_next_look()
             self._stop.raise_if_stopped()
 
-    def _look_for_sender(self) -> None:
+    def _look_for_sender_and_switch(self) -> None:
         """Looks at which sender stands, and goes over to it."""
         follower = self._follower
-        self._sources.watch_folders(follower.folders_to_watch())
+        self._sources.watch_folders_or_return_limit(follower.folders_to_watch())
         self._sources.read_events()
         failure = follower.failure
-        if follower.look_for_sender(time.monotonic()) or follower.sender != self._sender:
+        if follower.update_sender_returning_whether_changed(time.monotonic()) or follower.sender != self._sender:
             self._switch_sender(follower.sender)
             if not follower.is_current:
-                self._view.say_sender_left(follower.reason)
+                self._view.say_sender_outdated(follower.reason)
             if follower.failure and follower.failure != failure:
                 self._view.say_sender_refused(_not_built_lines(follower.failure))
-        if self._refused_proof.reread_lines() and self._refused_proof.lines:
+        if self._refused_proof.reread_lines_returning_whether_changed() and self._refused_proof.lines:
             self._view.say_sender_refused(self._refused_proof.lines)
         self._show_sender_progress(follower.build_phase_and_seconds)
 
@@ -122,27 +122,32 @@ class Session:
         if sender is None:
             self._end_runs()
         elif sender != before:
-            pool = self._begin_runs(sender)
+            pool = self._end_runs_and_open_pool_of_sender(sender)
             self._view.turn_to_sender(
-                pool, _words_of_sender(before, sender), not sender.is_proved, self._make_comparer(before)
+                pool,
+                _headline_of_new_sender(before, sender),
+                not sender.is_proved,
+                self._turned_scripts_finder_if_any(before),
             )
         elif self._follower.is_current and self._pool is not None:
             self._view.turn_to_sender(self._pool, _AGAIN, not sender.is_proved)
             self._is_new = True
 
-    def _make_comparer(self, before: LiveSender | None) -> Compare | None:
+    def _turned_scripts_finder_if_any(self, before: LiveSender | None) -> Compare | None:
         """What finds the scripts that the sender turned."""
         base, sender = self._watched.base, self._sender
         if sender is None or base is None and before is None:
             return None
         other: EarlierSender = base or EarlierBuild(None if before is None else before.program_paths)
         programs = sender.program_paths
-        return lambda shown, now: find_turned_scripts(other, programs, shown, now, self._stop, self._screen.print_note)
+        return lambda shown, now: find_turned_scripts(
+            other, programs, shown, now, self._stop, self._screen.print_note_on_stderr
+        )
 
     def _rerun_and_show(self) -> None:
         events, now = self._watcher.read_events(), time.monotonic()
         if self._pool is None or self._sender is None:
-            self._folders.take_in_events(events, now)
+            self._folders.take_in_events_and_report_change(events, now)
             return
         rerun_changes_and_show(
             self._folders, self._pool, self._view, events, now, self._page, self._sender.require_unchanged, self._is_new
@@ -155,33 +160,38 @@ class Session:
         if doing or not follower.is_current:
             self._view.show_progress(doing)
         if page is not None:
-            is_of_before = self._view.exit_status is not None and not follower.is_current
+            is_of_before = self._view.last_report_exit_status_if_any is not None and not follower.is_current
             page.mark_as_of_sender_before(
                 f"the sender has changed; {follower.build_phase or follower.reason}" if is_of_before else ""
             )
             refusals = (_not_built_lines(follower.failure), self._refused_proof.lines)
-            page.show_refusals([it for it in refusals if it])
+            page.show_sender_refusals_in_table([it for it in refusals if it])
 
-    def _wait_for_next(self) -> None:
-        files = [self._stop.fileno(), self._watcher.fileno(), self._sources.fileno(), *self._follower.filenos()]
+    def _wait_for_event_or_next_look(self) -> None:
+        files = [
+            self._stop.fileno(),
+            self._watcher.fileno(),
+            self._sources.fileno(),
+            *self._follower.build_output_filenos(),
+        ]
         files += [it.program.fileno() for it in (self._pool.runs if self._pool else ())]
         if self._page is not None:
-            self._page.advance_drawing()
-            files += self._page.filenos()
+            self._page.read_drawn_and_start_waiting()
+            files += self._page.filenos_of_drawing_workers()
         until = min(self._folders.next_look_moment(), self._follower.next_look_moment(time.monotonic()))
-        _wait_until_readable(until, [it for it in files if it is not None])
+        _wait_until_readable_or_moment(until, [it for it in files if it is not None])
 
-    def _refusal_lines(self, claims: Iterable[Claim]) -> list[str]:
+    def _refused_claim_lines(self, claims: Iterable[Claim]) -> list[str]:
         """The lines of the claims that the sender refuses; nothing while there is none."""
         if (sender := self._sender) is None:
             return []
         program = sender.regress.path
         sender.require_unchanged()
-        return refusal_lines(claims, lambda: Program([program], self._stop))
+        return query_refusal_lines(claims, lambda: Program([program], self._stop))
 
-    def _begin_runs(self, sender: LiveSender) -> LivePool:
+    def _end_runs_and_open_pool_of_sender(self, sender: LiveSender) -> LivePool:
         """Begins runs of a sender in place of those of the one before."""
-        is_first = self._view.exit_status is None
+        is_first = self._view.last_report_exit_status_if_any is None
         self._end_runs()
         start = starter_with_options(sender.regress.path, EXPLAIN_OPTIONS, BATCH_SIZE, self._stop)
         plain_start = starter_without_explanations(sender.regress.path, 0, 1, self._stop)
@@ -191,15 +201,15 @@ class Session:
             return start(settings)
 
         self._sender = sender
-        if is_first and (lines := self._refusal_lines(claims_of_layers([self._watched.option]))):
+        if is_first and (lines := self._refused_claim_lines(every_claim_of_layers([self._watched.option]))):
             raise SessionSettingsError(lines)
-        pool = LivePool(checked, self._screen.print_note, self._view.show_progress, plain_start)
+        pool = LivePool(checked, self._screen.print_note_on_stderr, self._view.show_progress, plain_start)
         self._pool = self._runs.enter_context(pool)
         self._is_new = True
         if not is_first:
             self._folders.recheck_settings()
         if self._page is not None:
-            self._page.redraw_by_programs(*sender.program_paths, not sender.is_proved)
+            self._page.set_programs_and_discard_drawn(*sender.program_paths, not sender.is_proved)
         return pool
 
     def _end_runs(self) -> None:
@@ -212,7 +222,7 @@ def _not_built_lines(failure: Sequence[str]) -> Sequence[str]:
     return (_NO_BUILD, *failure) if failure else ()
 
 
-def _words_of_sender(before: LiveSender | None, sender: LiveSender) -> str:
+def _headline_of_new_sender(before: LiveSender | None, sender: LiveSender) -> str:
     """What is shown of a sender before its first report."""
     if not sender.is_proved:
         return _BUILT
@@ -233,16 +243,20 @@ def rerun_changes_and_show(
 
     `check` raises SenderChangedError where the program has another file than its runs; `is_new` says these are new.
     """
-    has_changed = folders.take_in_events(events, now)
+    has_changed = folders.take_in_events_and_report_change(events, now)
     if pool.restart_ended_runs() or has_changed or is_new:
         if page is not None:
-            page.end_drawing()
-        wanted, unfit = folders.wanted_and_unfit()
-        pool.hold_wanted_scripts(wanted)
+            page.terminate_drawing_workers()
+        wanted, unfit = folders.wanted_scripts_and_unfit_reasons()
+        pool.update_runs_to_wanted_scripts(wanted)
         check()
-        view.show_outcomes(_make_outcomes(folders, pool, unfit), wanted, now, folders.is_strict, check)
+        view.explain_and_show_changed_outcomes(
+            _make_outcomes(folders, pool, unfit), wanted, now, folders.is_strict, check
+        )
         if page is not None:
-            page.queue_entries(_page_entries(view.outcomes, wanted, pool.causes_by_path()), view.turned)
+            page.queue_entries_and_advance_drawing(
+                _page_entries(view.outcomes, wanted, pool.causes_by_path()), view.turned
+            )
 
 
 def _page_entries(
@@ -267,14 +281,14 @@ def _make_outcomes(folders: Folders, pool: LivePool, unfit: Mapping[str, str]) -
 
 
 def _make_outcome(path: str, text: ScriptText | str, row: Row, folders: Folders) -> ScriptOutcome:
-    line = text.line(row.line) if isinstance(text, ScriptText) and row.line is not None else None
+    line = text.find_line_by_number(row.line) if isinstance(text, ScriptText) and row.line is not None else None
     outcome = ScriptOutcome(path, (), row, line, expected=folders.expected_row(path))
     if outcome.warnings:
         outcome.is_strict = folders.is_strict(path)
     return outcome
 
 
-def _wait_until_readable(until: float, files: Iterable[int]) -> None:
+def _wait_until_readable_or_moment(until: float, files: Iterable[int]) -> None:
     """Waits until a moment, or until one of these can be read."""
     poll = select.poll()
     for file in files:

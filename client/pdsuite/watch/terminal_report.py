@@ -6,17 +6,17 @@ from collections.abc import Callable, Mapping, Sequence
 from dataclasses import replace
 
 from pdsuite.compare.comparison import ComparedScript
-from pdsuite.output.fitting import fit_to_columns, usable_columns, wrap_line
+from pdsuite.output.fitting import wrap_prose_in_styled_text, columns_without_autowrap, wrap_with_hanging_indent
 from pdsuite.output.octets import printable_path
 from pdsuite.output.styled_text import StyledText
 from pdsuite.reports.plain import PlainFormatter, totals_style
 from pdsuite.watch.change_report import (
     ChangeReport,
     changed_outcomes,
-    entries_of,
+    render_script_entries,
     gone_paths,
     gone_row,
-    newly_explained_outcomes,
+    outcomes_with_new_row_or_explanation,
     totals_of,
 )
 from pdsuite.watch.folder_moves import Move, Outcomes, folder_moves_between
@@ -37,38 +37,40 @@ class TerminalReport(ChangeReport):
 
     def first_report(self, outcomes: Outcomes, every: bool, seconds: float) -> StyledText:
         """Each script that doesn't pass, or every script; then the totals."""
-        return self._wrap_to_width(entries_of(outcomes.values(), every)).append_text(
+        return self._wrap_to_width(render_script_entries(outcomes.values(), every)).append_text(
             self.totals_line(outcomes, seconds)
         )
 
-    def folder_moves(
+    def folder_moves_if_report_shows_them(
         self, before: Outcomes, after: Outcomes, had: Mapping[str, WantedScript], has: Mapping[str, WantedScript]
     ) -> Sequence[Move]:
         """The folders that moved."""
         return folder_moves_between(before, after, had, has)
 
-    def report_head(self) -> StyledText:
+    def time_of_day_head_if_any(self) -> StyledText:
         """A line with the time of day, across the terminal."""
         return StyledText(
             [(f"\u2500\u2500 {time.strftime('%H:%M:%S')} ".ljust(self._line_width(), "\u2500") + "\n", "dim")]
         )
 
-    def changed_rows(self, before: Outcomes, after: Outcomes, moves: Sequence[Move]) -> StyledText:
+    def render_changed_and_gone_rows(self, before: Outcomes, after: Outcomes, moves: Sequence[Move]) -> StyledText:
         """The folders that moved, and a few of the other rows of each kind."""
-        known = _shown_as_if_moved(before, moves)
+        known = _outcomes_at_moved_paths(before, moves)
         text = StyledText()
         for move in moves:
             text.append_text(_move_line(move, before, after))
         rows = changed_outcomes(known, after)
         form = PlainFormatter(True)
-        text.append_text(_few_rows([form.row_and_warnings(it) for it in rows if not it.lets_run_pass]))
-        text.append_text(_few_rows([form.row_and_warnings(it) for it in rows if it.lets_run_pass]))
-        return text.append_text(_few_rows(list(map(gone_row, gone_paths(known, after)))))
+        text.append_text(
+            _first_rows_and_count_of_rest([form.row_and_warnings(it) for it in rows if not it.lets_run_pass])
+        )
+        text.append_text(_first_rows_and_count_of_rest([form.row_and_warnings(it) for it in rows if it.lets_run_pass]))
+        return text.append_text(_first_rows_and_count_of_rest(list(map(gone_row, gone_paths(known, after)))))
 
     def changed_explanations(self, before: Outcomes, after: Outcomes, moves: Sequence[Move]) -> StyledText:
         """The explanations of a few scripts, and how many more there are."""
-        explained = newly_explained_outcomes(_shown_as_if_moved(before, moves), after)
-        text = self._wrap_to_width(entries_of(explained[:_MOST], False))
+        explained = outcomes_with_new_row_or_explanation(_outcomes_at_moved_paths(before, moves), after)
+        text = self._wrap_to_width(render_script_entries(explained[:_MOST], False))
         left = len(explained) - _MOST
         return text.append(f"{left:,} more: {self._command}\n", "bold") if left > 0 else text
 
@@ -84,21 +86,21 @@ class TerminalReport(ChangeReport):
         line = f"{totals.nonzero_counts_text()} in {seconds:.2f} s{totals.unproved_mark}"
         return StyledText([("\n".join(textwrap.wrap(line, self._line_width())) + "\n", totals_style(totals))])
 
-    def sender_left_notice(self, why: str) -> StyledText:
+    def outdated_sender_notice(self, why: str) -> StyledText:
         """That the sender doesn't stand any more of which all rows are, and why, in lines that fit."""
-        lines = super().sender_left_notice(why).plain.splitlines()
-        return StyledText([(f"{wrap_line(line, self._line_width())}\n", "dim") for line in lines])
+        lines = super().outdated_sender_notice(why).plain.splitlines()
+        return StyledText([(f"{wrap_with_hanging_indent(line, self._line_width())}\n", "dim") for line in lines])
 
     def _line_width(self) -> int:
         """How long a line may be."""
-        return usable_columns(self._width())
+        return columns_without_autowrap(self._width())
 
     def _wrap_to_width(self, text: StyledText) -> StyledText:
         """The text in lines that fit."""
-        return fit_to_columns(text, self._line_width())
+        return wrap_prose_in_styled_text(text, self._line_width())
 
 
-def _shown_as_if_moved(before: Outcomes, moves: Sequence[Move]) -> Outcomes:
+def _outcomes_at_moved_paths(before: Outcomes, moves: Sequence[Move]) -> Outcomes:
     """What was shown, as if the scripts that moved had been where they are."""
     if not moves:
         return before
@@ -117,7 +119,7 @@ def _move_line(move: Move, before: Outcomes, after: Outcomes) -> StyledText:
     )
 
 
-def _few_rows(rows: Sequence[StyledText]) -> StyledText:
+def _first_rows_and_count_of_rest(rows: Sequence[StyledText]) -> StyledText:
     """A few rows, and how many more there are."""
     text = StyledText()
     for row in rows[:_MOST]:

@@ -6,9 +6,9 @@ from pathlib import Path
 from typing import Protocol
 
 from pdsuite.compare.comparison import ComparedScript, ComparisonKind
-from pdsuite.compare.divergence import Divergence, first_divergence
+from pdsuite.compare.divergence import Divergence, first_divergence_in_event_or_time
 from pdsuite.programs.recorder import Recorder
-from pdsuite.run.batches import SuiteScript, group_into_batches
+from pdsuite.run.batches import SuiteScript, batch_scripts_by_equal_settings
 from pdsuite.run.explainer import EXPLAIN_FAILURES
 from pdsuite.run.local_mapper import local_mapper
 from pdsuite.run.outcomes import ScriptOutcome
@@ -34,7 +34,7 @@ class ShownScripts:
 class EarlierSender(Protocol):
     """A sender with which the one that answers is compared."""
 
-    def outcomes_now(self, shown: ShownScripts, now: ShownScripts) -> Outcomes:
+    def shown_or_newly_run_outcomes(self, shown: ShownScripts, now: ShownScripts) -> Outcomes:
         """What it makes of the scripts as they are now, after something else was shown of them."""
 
     def programs(self) -> Programs | None:
@@ -47,7 +47,7 @@ class EarlierBuild:
 
     sender: Programs | None
 
-    def outcomes_now(self, shown: ShownScripts, now: ShownScripts) -> Outcomes:
+    def shown_or_newly_run_outcomes(self, shown: ShownScripts, now: ShownScripts) -> Outcomes:
         return {path: it for path, it in shown.outcomes.items() if shown.wanted.get(path) == now.wanted.get(path)}
 
     def programs(self) -> Programs | None:
@@ -64,7 +64,7 @@ class BaseSender:
         self._note = note
         self._known: dict[str, tuple[WantedScript, ScriptOutcome]] = {}
 
-    def outcomes_now(self, shown: ShownScripts, now: ShownScripts) -> Outcomes:
+    def shown_or_newly_run_outcomes(self, shown: ShownScripts, now: ShownScripts) -> Outcomes:
         self._known = {path: it for path, it in self._known.items() if now.wanted.get(path) == it[0]}
         left = {path: it for path, it in now.wanted.items() if path not in self._known}
         self._known |= {it.path: (left[it.path], it) for it in self._run_scripts(left)}
@@ -76,11 +76,11 @@ class BaseSender:
     def _run_scripts(self, wanted: Wanted) -> Iterator[ScriptOutcome]:
         scripts = [SuiteScript(index, path, it.settings) for index, (path, it) in enumerate(wanted.items())]
 
-        def load(script: SuiteScript) -> ScriptText:
+        def load_wanted_text(script: SuiteScript) -> ScriptText:
             return wanted[script.path].text
 
-        for step in local_mapper(self._programs[0], EXPLAIN_FAILURES, self._workers, self._stop, load)(
-            group_into_batches(scripts)
+        for step in local_mapper(self._programs[0], EXPLAIN_FAILURES, self._workers, self._stop, load_wanted_text)(
+            batch_scripts_by_equal_settings(scripts)
         ):
             if isinstance(step, SettledPiece):
                 yield from (outcome for _, outcome in step.outcomes)
@@ -97,16 +97,16 @@ def find_turned_scripts(
     note: Callable[[str], None],
 ) -> list[ComparedScript]:
     """The scripts whose rows another sender turned, in the order of paths; `programs` are those that answer now."""
-    old = before.outcomes_now(shown, now)
+    old = before.shown_or_newly_run_outcomes(shown, now)
     pairs = [(old[path], it) for path, it in now.outcomes.items() if path in old and old[path].row != it.row]
-    recorders = [_make_recorder(it, stop, note) for it in (before.programs(), programs)]
+    recorders = [_recorder_if_program_exists(it, stop, note) for it in (before.programs(), programs)]
     return [
         _compared_script(index, one, other, now.wanted.get(other.path), recorders)
         for index, (one, other) in enumerate(pairs)
     ]
 
 
-def _make_recorder(programs: Programs | None, stop: Stop, note: Callable[[str], None]) -> Recorder | None:
+def _recorder_if_program_exists(programs: Programs | None, stop: Stop, note: Callable[[str], None]) -> Recorder | None:
     record = None if programs is None else programs[1]
     return None if record is None or not record.exists() else Recorder(stop, note, record)
 
@@ -126,5 +126,9 @@ def _divergence_of_recordings(
     path: str, wanted: WantedScript, recorders: Iterable[Recorder | None]
 ) -> Divergence | None:
     """Where the recordings of a script part; None where one is missing."""
-    texts = [it.record_script(path, wanted.text.octets, wanted.settings).text for it in recorders if it is not None]
-    return first_divergence(*texts) if len(texts) == 2 and all(texts) else None
+    texts = [
+        it.record_script_or_note_reason(path, wanted.text.octets, wanted.settings).text
+        for it in recorders
+        if it is not None
+    ]
+    return first_divergence_in_event_or_time(*texts) if len(texts) == 2 and all(texts) else None

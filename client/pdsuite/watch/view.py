@@ -26,7 +26,7 @@ Wanted = Mapping[str, WantedScript]
 class Explainer(Protocol):
     """Who knows the explanations of scripts."""
 
-    def explain(self, outcome: ScriptOutcome, wanted: WantedScript) -> ScriptOutcome:
+    def outcome_with_explanation(self, outcome: ScriptOutcome, wanted: WantedScript) -> ScriptOutcome:
         """An outcome with its explanation."""
 
 
@@ -64,15 +64,17 @@ class View:
         self._compare: Compare | None = None
 
     @property
-    def exit_status(self) -> int | None:
+    def last_report_exit_status_if_any(self) -> int | None:
         """The exit status of the last report, if there was one: 2 where its sender doesn't stand any more."""
         return self._status if self._status is None or self._is_current else _FAULT
 
-    def say_sender_left(self, why: str) -> None:
+    def say_sender_outdated(self, why: str) -> None:
         """Says that the sender doesn't stand any more of which all rows are."""
         if self._is_current and self._status is not None:
             self._screen.show(
-                self._change_report.report_head().append_text(self._change_report.sender_left_notice(why))
+                self._change_report.time_of_day_head_if_any().append_text(
+                    self._change_report.outdated_sender_notice(why)
+                )
             )
         self._is_current = False
         self.show_progress("")
@@ -80,7 +82,7 @@ class View:
     def say_sender_refused(self, lines: Sequence[str]) -> None:
         """Says why no sender can be built, or be proved."""
         self._screen.show(
-            self._change_report.report_head().append_text(self._change_report.refused_sender_notice(lines))
+            self._change_report.time_of_day_head_if_any().append_text(self._change_report.refused_sender_notice(lines))
         )
         self.show_progress("")
 
@@ -98,7 +100,7 @@ class View:
         self._turn = words
         self.show_progress("")
 
-    def show_outcomes(
+    def explain_and_show_changed_outcomes(
         self,
         outcomes: Outcomes,
         wanted: Wanted,
@@ -113,26 +115,36 @@ class View:
         passing = self._explain_outcomes((it for it in outcomes.values() if it.row.verdict is Verdict.PASS), wanted)
         put = {it.path: replace(it, is_strict=is_strict(it.path)) for it in passing if it.at_end}
         check()
-        self._show_changes({**outcomes, **put}, wanted, begin, check)
+        self._show_changed_rows_then_explanations({**outcomes, **put}, wanted, begin, check)
 
     def show_progress(self, doing: str) -> None:
         """Keeps at the bottom of a terminal how many scripts pass, and what is running."""
         totals = totals_of(self.outcomes)
-        passing = "" if self._status is None else f"{totals.passing_count:,} of {totals.script_count:,} pass"
+        passing = (
+            ""
+            if self._status is None
+            else f"{totals.passing_count_without_strict_warnings:,} of {totals.script_count:,} pass"
+        )
         if passing and not (self._is_current and self._turn is None):
             passing += " by the sender before"
         self._screen.keep_bottom_line(", ".join(it for it in (passing, doing) if it))
 
-    def _show_changes(self, outcomes: Outcomes, wanted: Wanted, begin: float, check: Callable[[], None]) -> None:
+    def _show_changed_rows_then_explanations(
+        self, outcomes: Outcomes, wanted: Wanted, begin: float, check: Callable[[], None]
+    ) -> None:
         """Shows what changed: the rows at once, their explanations once these are there; at first all in one."""
         outcomes = self._explain_syntax_faults(outcomes, wanted)
         check()
-        before = self._outcomes_shown_before()
-        rows, moves = StyledText(), self._change_report.folder_moves(before, outcomes, self._wanted, wanted)
+        before = self._outcomes_shown_of_current_sender()
+        rows, moves = StyledText(), self._change_report.folder_moves_if_report_shows_them(
+            before, outcomes, self._wanted, wanted
+        )
         if self._status is not None:
-            rows = self._change_report.changed_rows(before, outcomes, moves)
+            rows = self._change_report.render_changed_and_gone_rows(before, outcomes, moves)
         if rows.plain:
-            self._screen.show(self._report_head().append_text(self._marked_unless_current(rows)))
+            self._screen.show(
+                self._report_head_with_sender_notice().append_text(self._text_marked_unless_sender_current(rows))
+            )
             self._note_sender_of_rows(before, outcomes)
         after = {
             path: self.outcomes[path] if self._is_explanation_current(it, wanted) else it
@@ -147,7 +159,7 @@ class View:
             # The rows were shown; their explanations may be another program's.
             self.outcomes, self._wanted = outcomes, wanted
             raise
-        self._show_report_end(before, after, bool(rows.plain), moves, begin, turned or ())
+        self._show_explanations_totals_and_note_state(before, after, bool(rows.plain), moves, begin, turned or ())
         self._keep_turned_scripts(turned, after, wanted)
         self._wanted = wanted
 
@@ -177,7 +189,7 @@ class View:
                 return
         self.turned = found
 
-    def _show_report_end(
+    def _show_explanations_totals_and_note_state(
         self,
         before: Outcomes,
         after: Outcomes,
@@ -190,28 +202,28 @@ class View:
         compared = self._change_report.turned_entries(turned)
         if self._status is None:
             first = self._change_report.first_report(after, self._every, time.monotonic() - begin)
-            self._screen.show(self._marked_unless_current(compared.append_text(first)))
+            self._screen.show(self._text_marked_unless_sender_current(compared.append_text(first)))
         else:
             shown_paths = {it.path for it in turned} if self._change_report.is_brief else set()
             others = {path: it for path, it in after.items() if path not in shown_paths}
             blocks = compared.append_text(self._change_report.changed_explanations(before, others, moves))
-            head = StyledText() if has_changed else self._report_head()
+            head = StyledText() if has_changed else self._report_head_with_sender_notice()
             if has_changed or blocks.plain or self._turn is not None:
                 foot = self._change_report.totals_line(after, time.monotonic() - begin)
-                self._screen.show(head.append_text(self._marked_unless_current(blocks.append_text(foot))))
+                self._screen.show(head.append_text(self._text_marked_unless_sender_current(blocks.append_text(foot))))
         if not after and (self.outcomes or self._status is None):
-            self._screen.print_note("pdsuite: no script found")
+            self._screen.print_note_on_stderr("pdsuite: no script found")
         self.outcomes = after
         self._turn = None
-        self._status = totals_of(after).exit_status() if after else _NO_SCRIPT
+        self._status = totals_of(after).pass_fail_or_error_exit_status() if after else _NO_SCRIPT
         self.show_progress("")
 
-    def _report_head(self) -> StyledText:
+    def _report_head_with_sender_notice(self) -> StyledText:
         """What stands before a report that isn't the first; of another sender what is shown of it, too."""
-        head = self._change_report.report_head()
+        head = self._change_report.time_of_day_head_if_any()
         return head if self._turn is None else head.append_text(self._change_report.new_sender_notice(self._turn))
 
-    def _outcomes_shown_before(self) -> Outcomes:
+    def _outcomes_shown_of_current_sender(self) -> Outcomes:
         """What was shown; where a sender stands, no row of the one before counts as shown."""
         if not self._is_current:
             return self.outcomes
@@ -224,7 +236,7 @@ class View:
         else:
             self._marked.update(it.path for it in changed_outcomes(before, outcomes))
 
-    def _marked_unless_current(self, text: StyledText) -> StyledText:
+    def _text_marked_unless_sender_current(self, text: StyledText) -> StyledText:
         """A part of a report, which says of which sender it is where that doesn't stand."""
         return text if self._is_current else mark_as_of_sender_before(text)
 
@@ -249,4 +261,4 @@ class View:
     def _explain_outcomes(self, outcomes: Iterable[ScriptOutcome], wanted: Wanted) -> Iterator[ScriptOutcome]:
         """Outcomes with explanations."""
         if self._explainer is not None:
-            yield from (self._explainer.explain(it, wanted[it.path]) for it in outcomes)
+            yield from (self._explainer.outcome_with_explanation(it, wanted[it.path]) for it in outcomes)

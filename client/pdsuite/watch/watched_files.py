@@ -4,9 +4,9 @@ import os
 from collections.abc import Iterable, Mapping, Set
 from dataclasses import dataclass, replace
 
-from pdsuite.file_stamps import Stamp, StampedValue, is_unchanged_since_read, read_stamped
+from pdsuite.file_stamps import Stamp, StampedValue, is_unchanged_since_read, read_value_and_file_stamp
 from pdsuite.run.batches import SuiteScript
-from pdsuite.run.run_batches import load_script_text
+from pdsuite.run.run_batches import load_script_text_or_fault
 from pdsuite.scripts.discover import ScriptFile
 from pdsuite.scripts.text import ScriptText
 
@@ -22,7 +22,7 @@ class WatchedFile:
     file: StampedValue[ScriptText | str]
 
     @property
-    def inode(self) -> Stamp:
+    def device_and_inode(self) -> Stamp:
         """Which file it was, whatever its path."""
         return self.file.stamp[:2]
 
@@ -45,16 +45,18 @@ class Update:
     torn: frozenset[str]
 
 
-def read_watched_file(found: ScriptFile, before: WatchedFile | None, is_closed: bool) -> WatchedFile:
+def read_watched_file_returning_whether_torn(
+    found: ScriptFile, before: WatchedFile | None, is_closed: bool
+) -> WatchedFile:
     """Reads a script's file. If nobody says that it was closed, who wrote it a moment ago may still be writing."""
     script = SuiteScript(0, found.path, (), found.fault)
-    file = read_stamped(found.path, lambda: load_script_text(script))
+    file = read_value_and_file_stamp(found.path, lambda: load_script_text_or_fault(script))
     if file.is_fresh and not is_closed and (before is None or before.file.value != file.value):
         file = replace(file, is_torn=True)
     return WatchedFile(found, file)
 
 
-def read_watched_files(
+def reread_changed_watched_files(
     scripts: Iterable[ScriptFile], before: WatchedFiles, closed: Set[tuple[str, str]]
 ) -> WatchedFiles:
     """Reads all scripts but those that are surely as they were."""
@@ -62,17 +64,21 @@ def read_watched_files(
     for it in scripts:
         known = before.get(it.path)
         is_closed = (it.folder, it.name) in closed
-        files[it.path] = _known_if_unchanged(it, known) or read_watched_file(it, known, is_closed)
+        files[it.path] = _known_if_unchanged(it, known) or read_watched_file_returning_whether_torn(
+            it, known, is_closed
+        )
     return files
 
 
-def update_from_seen(before: WatchedFiles, now: WatchedFiles, gone: Mapping[str, float], time: float) -> Update:
+def update_holding_back_gone_and_torn(
+    before: WatchedFiles, now: WatchedFiles, gone: Mapping[str, float], time: float
+) -> Update:
     """Takes what is seen now, but neither that something went a moment ago, unless it moved, nor what is torn."""
     files: dict[str, WatchedFile] = {}
     still = {path: since for path, since in gone.items() if time < since + GRACE}
     torn: set[str] = set()
     missing = sorted(before.keys() - now.keys(), key=os.fsencode)
-    moved = {it.inode for path, it in now.items() if path not in before and not it.file.is_torn}
+    moved = {it.device_and_inode for path, it in now.items() if path not in before and not it.file.is_torn}
     for path in (*now, *missing):
         old, new = before.get(path), now.get(path)
         chosen = new
@@ -82,7 +88,7 @@ def update_from_seen(before: WatchedFiles, now: WatchedFiles, gone: Mapping[str,
         elif not _is_newly_gone(old, new):
             if new is not old:
                 still.pop(path, None)
-        elif time < gone.get(path, time) + GRACE and (old is None or old.inode not in moved):
+        elif time < gone.get(path, time) + GRACE and (old is None or old.device_and_inode not in moved):
             still[path] = gone.get(path, time)
             chosen = old
         if chosen is not None:
@@ -90,7 +96,7 @@ def update_from_seen(before: WatchedFiles, now: WatchedFiles, gone: Mapping[str,
     return Update(_sort_by_path(files) if missing else files, still, frozenset(torn))
 
 
-def has_script_changed(before: WatchedFiles, now: WatchedFiles) -> bool:
+def has_any_script_changed(before: WatchedFiles, now: WatchedFiles) -> bool:
     """Whether a script came, went, or reads otherwise."""
     return before.keys() != now.keys() or any(
         old is not new and (old.found != new.found or old.file.value != new.file.value)

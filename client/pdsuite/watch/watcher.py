@@ -61,7 +61,7 @@ class Watcher:
         """What can be read once there are events, if there can be any."""
         return None if self._inotify is None else self._inotify.fd
 
-    def watch_folders(self, folders: Iterable[str]) -> str | None:
+    def watch_folders_or_return_limit(self, folders: Iterable[str]) -> str | None:
         """Has these folders watched, whatever lay at their paths before; the limit of the system that prevents it."""
         for folder in sorted(folders):
             if self._is_refused:
