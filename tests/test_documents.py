@@ -44,6 +44,12 @@ def test_what_watch_prints_of_a_build_is_left_to_who_walks_without_proofs(tmp_pa
     assert [it.printed_instead for it in run_shown_commands(steps, tmp_path, 0.5, is_proved=False)] == [None, ""]
 
 
+def test_the_line_unproved_of_what_watch_prints_does_not_count(tmp_path: Path) -> None:
+    page = "```console watch\n$ sh -c 'echo pdsuite: unproved: b; echo a'\na\n```\n"
+    (step,) = run_shown_commands(list(commands_shown_in(page)), tmp_path, 0.5, is_proved=False)
+    assert step.printed_instead is None
+
+
 def test_a_block_of_an_unknown_kind_fails(monkeypatch: pytest.MonkeyPatch) -> None:
     ((name, why),) = results_of_commands(PAGE.replace("slow", "fast"), None, monkeypatch)
     assert (name, why) == ("blocks of a.md", "a.md:11: a block of an unknown kind fast")

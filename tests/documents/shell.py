@@ -10,6 +10,8 @@ import time
 from pathlib import Path
 from typing import IO
 
+from documents.shown import UNPROVED
+
 MINUTE = 60.0
 
 
@@ -47,7 +49,7 @@ class Shell:
 
 
 class WatchCommand:
-    """A command that goes on during the others, and what it has printed."""
+    """A command that goes on during the others, and what it has printed, but for the line `unproved`."""
 
     def __init__(self, command: str, folder: Path) -> None:
         self._process = subprocess.Popen(
@@ -89,4 +91,5 @@ class WatchCommand:
 def _gather_lines(pipe: IO[bytes] | None, lines: list[bytes]) -> None:
     assert pipe is not None
     for line in iter(pipe.readline, b""):
-        lines.append(line)
+        if not UNPROVED.match(line.decode(errors="replace")):
+            lines.append(line)
