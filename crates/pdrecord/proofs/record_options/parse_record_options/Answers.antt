@@ -25,8 +25,8 @@ returns-then-are_options_conflicting-clause-refused g c =
     let together : (is_trace_beside_minimal arguments || is_drop_missing_alone arguments) ≡ true = sym (c.are_options_conflicting.ensures arguments matched) ∙ c.if-are_options_conflicting.true in
     inr (refused_together pdrecord (is_trace_beside_minimal arguments) (is_drop_missing_alone arguments) arguments together)
 
-pub returns-clause-options_of_matches : goal.returns-clause-options_of_matches
-returns-clause-options_of_matches g c =
+pub returns-clause-options_of : goal.returns-clause-options_of
+returns-clause-options_of g c =
     let arguments = map g.S.AsStr.text c.args.arguments.now in
     c.in_ok-options_of_matches.ensures arguments (subst (λ (a : App). HasMatchesOf a arguments c.in_ok-matches.matches) c.in_ok-command.ensures.arguments c.in_ok-matches.ensures.matches)
 
