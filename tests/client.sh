@@ -39,9 +39,10 @@ count_of() { # a word of the last line of pytest
     tail -n 1 "$work/tests" | sed -n "s/\(.* \)\{0,1\}\([0-9][0-9]*\) $1.*/\2/p"
 }
 
-tests() { # [--unproved]
+tests() { # [--unproved]: each processor takes a file at a time, at most four of them, since some files start a browser
     {
-        (cd "$top/client" && "$python" -I -m pytest -q --tb=short --color=no --durations=3 "$@" tests 2>&1) &&
+        (cd "$top/client" && "$python" -I -m pytest -q -n auto --maxprocesses 4 --dist loadfile --tb=short --color=no \
+            --durations=3 "$@" tests 2>&1) &&
             echo 0 >"$work/status" || echo "$?" >"$work/status"
     } | tee "$work/tests"
     read -r status <"$work/status"

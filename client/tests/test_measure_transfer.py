@@ -5,6 +5,7 @@ from dataclasses import replace
 from itertools import count
 from pathlib import Path
 from random import Random
+from weakref import WeakKeyDictionary
 
 import pytest
 
@@ -46,9 +47,9 @@ def lose(monkeypatch: pytest.MonkeyPatch) -> Callable[..., None]:
     """Has the packets of these numbers lost, counted from 0, and no others."""
 
     def losing(*numbers: int) -> None:
-        found: dict[int, count[int]] = {}
+        packets: WeakKeyDictionary[LossModel, count[int]] = WeakKeyDictionary()
         monkeypatch.setattr(
-            LossModel, "is_next_lost", lambda losses, at: next(found.setdefault(id(losses), count())) in numbers
+            LossModel, "is_next_lost", lambda losses, at: next(packets.setdefault(losses, count())) in numbers
         )
 
     return losing
