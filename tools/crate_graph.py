@@ -1,13 +1,14 @@
-"""What crates.txt says of the crates: which stands on which."""
+"""The dependencies between crates, by crates.txt: which stands on which."""
 from __future__ import annotations
 
 
 def parse_dependencies_between_crates(table: str) -> dict[str, list[str]]:
-    """What each crate of a crates.txt stands on, crate by crate as its lines come; libraries of the kit are left out.
+    """The crates that each one of a crates.txt stands on, in the order of its lines; libraries of the kit are left out.
 
-    >>> dependencies("# NAME: DEP DEP ..\\nlow:\\nhigh may_wait=1: low toml\\ntop: low,high # so\\n")
+    >>> table = "# NAME: DEP DEP ..\\nlow:\\nhigh may_wait=1: low toml\\ntop: low,high # so\\n"
+    >>> parse_dependencies_between_crates(table)
     {'low': [], 'high': ['low'], 'top': ['low', 'high']}
-    >>> dependencies("low:\\nhigh:\\ntop: low\\fhigh\\n")["top"]
+    >>> parse_dependencies_between_crates("low:\\nhigh:\\ntop: low\\fhigh\\n")["top"]
     ['low', 'high']
     """
     # Only a newline ends a line, as the kit has it.
