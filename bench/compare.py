@@ -26,7 +26,7 @@ Row = tuple[str, "int | None"]
 
 
 def run_for_json(*command: "str | Path") -> Any:
-    """What a pdsuite prints as JSON."""
+    """Runs a pdsuite, and answers the JSON that it prints."""
     done = subprocess.run(command, stdin=subprocess.DEVNULL, stdout=subprocess.PIPE)
     if done.returncode not in (0, 1):
         raise SystemExit(f"{' '.join(map(str, command))} ended with status {done.returncode}")

@@ -1,11 +1,12 @@
 #!/bin/sh
 # Measures what it costs to answer a script again after an edit: one of 60 events that transfers data, edited in its last
-# line, against the same script edited in its first line, which has to be read and run from the start. What the edit and the
-# report themselves cost is taken off. Tells nanoseconds, and where valgrind is there instructions, which don't vary with
+# line, against the same script edited in its first line, which has to be read and run from the start. The costs of the edit
+# and the report themselves are taken off. Tells nanoseconds, and where valgrind is there instructions, which don't vary with
 # the load. An edit in the last line is to cost at most a fifth. The edit puts a space after the line or takes it away.
-# Then what an edit in the last line costs more for each further event that is kept: from scripts of 181 and of 541 events.
-# Last, a script that grows by an event a settle to 4,096: each of the last ten settles may cost 1.5 times what one costs
-# after an edit of the last line of the same script, added whole. The status tells whether it does.
+# Then tells how much more an edit in the last line costs for each further event that is kept: from scripts of 181 and of 541
+# events.
+# Last, a script that grows by an event a settle to 4,096: on average the last ten settles may cost 1.5 times what one costs
+# after an edit of the last line of the same script, added whole. The status tells whether they keep to that.
 #
 #   bench/edits.sh [TURNS]      2,000 turns by default, a tenth of them for instructions
 . "$(dirname "$0")/program.sh"
@@ -40,7 +41,7 @@ edits() { # how many, the line, the command
     }'
 }
 
-# What the last line and the first cost a turn, each with what its report without a run costs taken off.
+# Compares the costs of a turn in the last line and in the first, each less the cost of its edit and report without a run.
 compared() { # turns, unit, the last line, its edits alone, the first line, its edits alone
     awk -v turns="$1" -v unit="$2" -v last="$3" -v base_last="$4" -v first="$5" -v base_first="$6" 'BEGIN {
         l = (last - base_last) / turns
@@ -86,7 +87,7 @@ growing() { # from, to
     }'
 }
 
-# What a settle of each of these ten costs, in instructions.
+# The mean cost of one of ten settles, in instructions.
 each_of_ten() { # the input with them, the input without
     echo $((($(instructions "$1") - $(instructions "$2")) / 10))
 }

@@ -1,7 +1,7 @@
 """Builds one sender with many mutants, of which a number in the program chooses one or none.
 
-Each function that a mutant changes has its bodies side by side. What chooses among them reads a number that the
-compiler takes for unknown, so that a copy of the program with another number is another mutant. That is one build for
+Each function that a mutant changes has its bodies side by side. A `match` chooses among them by a number that the
+compiler takes for unknown, so that a copy of the program with another number is another mutant. One build serves for
 all mutants.
 """
 from __future__ import annotations

@@ -1,4 +1,4 @@
-# What every bench needs: the built program, a folder for its work, and generated scripts. It is read by the others.
+# Gives each shell program that reads it the built program, a folder for its work, and generated scripts.
 # PROGRAM names another build.
 set -eu
 top=$(cd "$(dirname "$0")/.." && pwd)

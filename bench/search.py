@@ -55,7 +55,7 @@ SECONDS = 60.0
 
 @dataclass(frozen=True)
 class SearchBench:
-    """What all mutants are searched with: the base, its scripts, the program with all mutants, and the options."""
+    """The common parts of all searches: the base, its scripts, the program with all mutants, and the options."""
 
     base: Path
     scripts: Sequence[ConfiguredScript]

@@ -1,8 +1,8 @@
 #!/bin/sh
 # Measures what it costs to answer scripts again after a changed setting that only their last events consult: scripts of
 # 60 events, of which the 58th writes, after a change of how much may be queued, against the same scripts answered for the
-# first time. What the commands and the reports themselves cost is taken off. Tells nanoseconds, and where valgrind is there
-# instructions, which don't vary with the load. The scripts are to be answered again at least five times as fast.
+# first time. The costs of the commands and the reports themselves are taken off. Tells nanoseconds, and where valgrind is
+# there instructions, which don't vary with the load. The scripts are to be answered again at least five times as fast.
 #
 #   bench/settings.sh [SCRIPTS]      1,000 scripts by default, at most 1,024; a tenth of them for instructions
 . "$(dirname "$0")/program.sh"

@@ -1,7 +1,7 @@
 #!/bin/sh
 # Measures a settle over generated scripts: octets and scripts per second, as the built program takes them. Where valgrind
 # is there, also a settle of 1,024 scripts of which one changed: the instructions for each script that didn't change, in which
-# the octets of its row are counted. What ten such settles of that one script alone take is taken off.
+# the octets of its row are counted. The instructions of ten such settles of that one script alone are taken off.
 #
 #   bench/settle.sh [SCRIPTS [EVENTS]]      1,000 scripts of 60 events by default
 . "$(dirname "$0")/program.sh"

@@ -7,7 +7,7 @@
 scripts=${1:-1000}
 events=60
 
-# What the program takes for an input at most, in KiB.
+# The most memory that the program takes for an input, in KiB.
 memory() { # the input
     /usr/bin/time -f %M "$program" <"$1" 2>&1 >/dev/null | tail -n 1
 }

@@ -29,7 +29,7 @@ NEEDS_BUILT = "needs a built program"
 
 
 class RowFailure(Exception):
-    """What is wrong about a row."""
+    """The fault of a row."""
 
 
 class RowFile(pytest.File):

@@ -11,7 +11,7 @@ LEAST = 120
 
 
 def faults_of_scripts() -> Iterator[str]:
-    """What is wrong about each script that is played, empty where nothing is."""
+    """The fault of each script that is played, empty where there is none."""
     for path in sorted(SUITE.rglob("*.pkt")):
         try:
             yield fault_of(path)

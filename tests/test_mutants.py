@@ -137,7 +137,7 @@ def test_old_texts_of_mutants_with_tests_are_found_by_their_words(tmp_path: Path
 
 
 def test_old_texts_are_found_in_the_text_before_all_changes(tmp_path: Path) -> None:
-    """What one change puts in isn't what the other one finds, whichever comes first."""
+    """Neither change finds the text that the other one puts in, whichever comes first."""
     mutant = make_mutant(TextChange("src/a.rt", "y", "x"), TextChange("src/a.rt", "x", "y"), test="run x")
     assert text_with_mutant(tmp_path, "x y", mutant) == "y x"
 

@@ -32,7 +32,7 @@ PROGRAM = "crates/top/out/top"
 OLD = "2001-01-01"
 SET_BACK = f"find . -exec touch -h -d {OLD} {{}} +"
 
-# What is done in a tree whose program is proved, and of which all files are older than the program.
+# Commands that are run in a tree whose program is proved, and whose sources are all older than the program.
 STAYS = {
     "nothing": ":",
     "each file touched": "find . -type f -exec touch {} +",

@@ -40,7 +40,7 @@ def test_a_proof_reads_what_was_written_in_each_folder(tmp_path: Path, monkeypat
 
 
 def test_a_crate_that_changed_takes_longer(tmp_path: Path, monkeypatch: pytest.MonkeyPatch) -> None:
-    """What was measured counts for it and for what stands on it; one that stands takes next to nothing."""
+    """It and a crate that stands on it take the times that were measured; an unchanged one takes next to nothing."""
     monkeypatch.setattr(proofs, "TOP", tmp_path)
     for name in ("low", "high", "apart"):
         crate = make_crate(tmp_path, name)

@@ -1,6 +1,6 @@
 """Which paragraphs of pages a changed sender affects: those that cite a section of an RFC that the change cites, too.
 
-What changes are definitions in `specs/`, and functions and constants in `src/`. A definition cites what its comment
+A change is of definitions in `specs/`, or of functions and constants in `src/`. A definition cites what its comment
 does, and what those that name it cite; a constant what the functions that name it do, and the definitions of their
 contracts. A function cites nothing, since its rule is a definition. A default is written in three places. A comment
 that names a section or a step alone means the RFC, and the section, of the heading above it, or of the file's first
@@ -67,7 +67,7 @@ def split_section_number_list(text: str) -> list[str]:
 
 
 def citations_in(text: str, above: Citation = NOTHING) -> list[Citation]:
-    """What a comment or a paragraph cites.
+    """The citations in a comment or a paragraph.
 
     >>> [str(it) for it in citations_in("a (RFC 6298, sections 3 and 5.6; RFC 2018, section 5)")]
     ['RFC 6298, section 3', 'RFC 6298, section 5.6', 'RFC 2018, section 5']
@@ -95,7 +95,7 @@ def citations_in(text: str, above: Citation = NOTHING) -> list[Citation]:
 
 
 def default_citation_from_heading(text: str, above: Citation = NOTHING) -> Citation:
-    """What a heading puts above what has no citation of its own: the only section that it names, or an RFC alone."""
+    """The citation that a heading gives to text without one: the only section that it names, or an RFC alone."""
     found = citations_in(text, above)
     rfc = re.search(r"RFC (\d+)", text)
     if len({(it.rfc, it.section) for it in found}) == 1:
@@ -176,7 +176,7 @@ class SenderSources:
     code: dict[tuple[str, str, str, int], SourceItem] = field(default_factory=dict)
 
     def citations_of_definition(self, key: Key) -> tuple[Citation, ...]:
-        """What a definition cites."""
+        """The citations of a definition; none where it isn't there."""
         return self.definitions[key].cited if key in self.definitions else ()
 
 
@@ -242,7 +242,7 @@ def each_changed_code_item_with_names(before: Path, tree: Path) -> Iterator[Chan
 def changed_items_citations_unless_function(
     before: SenderSources, after: SenderSources
 ) -> Iterator[tuple[SourceItem, set[Citation]]]:
-    """What changed, each with all that it cites: a function nothing, since its rule is what its contract names."""
+    """The changed items, each with all that it cites: a function nothing, since its rule is what its contract names."""
     for item in new_changed_and_removed_items(before.definitions, after.definitions):
         users = [it for it in after.definitions.values() if any(after.definitions.get(key) is item for key in it.names)]
         yield item, {*item.cited, *(cited for it in users for cited in it.cited)}
@@ -286,7 +286,7 @@ def all_citing_paragraphs_of_page(page: Path) -> Iterator[CitingParagraph]:
 
 
 def paragraph_name_by_bold_or_first_words(line: str) -> str:
-    """What a paragraph is called: its bold words, the first cell of its row, or else its first words.
+    """The name of a paragraph: its bold words, the first cell of its row, or else its first words.
 
     >>> [paragraph_name_by_bold_or_first_words(it) for it in ("- a **b c** d", "| [e f](#e) | g |", "1. h i j k l m n")]
     ['b c', 'e f', 'h i j k l m']

@@ -1,7 +1,7 @@
 """Where programs are kept that are built without a proof: by what they are made of, in a folder of the user's own.
 
 A build has a folder named by its key, which is the checksum of all that it is made of. In it each way of building has a
-folder of its own, with the program by its two names and the program's checksum. What is kept there was put there whole.
+folder of its own, with the program by its two names and the program's checksum. Each folder is put there whole.
 The folder of all builds is `pdregress/builds` below ~/.cache or XDG_CACHE_HOME, or the tree's out/ where that one isn't
 the user's own.
 """
@@ -23,7 +23,7 @@ from kit_tools import BuildKit, UnknownKitError, kit_or_raise_unknown_kit_error
 
 TOOLS = Path(__file__).resolve().parent
 PROGRAMS = ("pdregress", "pdrecord")
-# What builds and runs what is kept: a change of it makes what was kept before the work of another one.
+# The files that make builds and run them: a change of one changes all keys, so no build from before is found.
 MADE_BY = (
     *("build_cache.py", "kit_tools.py", "building.py", "combined.rattle", "fault_handler.c"),
     *("fault_places.py", "report_fault.py", "run_unproved.py", "../pdregress", "../pdrecord"),
@@ -31,7 +31,7 @@ MADE_BY = (
 SUM = "sum"
 # The ways to build.
 PLAIN, OPTIMISED = "plain", "optimised"
-# What is kept may have so many octets; what was used so many seconds ago at most stays in any case.
+# All builds together may have so many octets; a build that was used at most so many seconds ago stays in any case.
 MOST = 1 << 30
 RECENT = 3_600.0
 # How long is waited between two looks at a lock, in seconds.
@@ -64,7 +64,7 @@ class CachedBuild:
 
     @contextlib.contextmanager
     def lock_for_building(self, turn: Callable[[], None]) -> Iterator[None]:
-        """Lets one call at a time build it; the others wait, each with a turn now and then. Who ends lets others go."""
+        """Lets one call at a time build it; the others wait until that one ends, each with a turn now and then."""
         file = self.folder.with_name(f"{self.folder.name}.lock")
         descriptor = os.open(file, os.O_RDWR | os.O_CREAT | os.O_NOFOLLOW | os.O_CLOEXEC, 0o600)
         try:
@@ -143,7 +143,7 @@ def is_own_folder_closed_to_others(folder: Path) -> bool:
 
 
 def distinct_program_sums_in_folder(folder: Path) -> set[str]:
-    """The checksums of the programs in a folder. What is one file by several names is read once."""
+    """The checksums of the programs in a folder. A file with several names is read once."""
     found = {name: (folder / name).lstat() for name in PROGRAMS}
     files = {(it.st_dev, it.st_ino): name for name, it in found.items()}
     return {sha256_of_program(folder / name) for name in files.values()}

@@ -31,7 +31,7 @@ class SpecRule:
 
     @property
     def key(self) -> Key:
-        """What tells it from all others."""
+        """Its crate, file and name, which tell it from all others."""
         return self.crate, self.file, self.name
 
     @property
@@ -90,7 +90,7 @@ def new_or_changed_definitions_since_proof(out: Path, folders: Iterable[Path]) -
 
 
 def own_and_imported_definitions_by_word(crate: str, file: str, text: str, own: set[str]) -> dict[str, Key]:
-    """What each word of a file names: a definition of its own, or one that it imports.
+    """The definition that each word of a file names, its own or an imported one; a word with a dot names a file.
 
     >>> text = "use Rattle.low.specs.G.{a as b, d}\\nuse Rattle.low.specs.H as h\\n"
     >>> own_and_imported_definitions_by_word("c", "F", text, {"own"})
@@ -134,7 +134,7 @@ def laws_naming_directly_or_indirectly(rule: SpecRule, folders: list[Path]) -> l
 
 
 def changed_definitions_and_laws_report_lines(out: Path, folders: list[Path]) -> Iterator[str]:
-    """What changed in the definitions of a crate and those below it since it was proved, and the laws that name it."""
+    """The changes to definitions of a crate and those below it since it was proved, and the laws that name each."""
     for rule in new_or_changed_definitions_since_proof(out, folders):
         yield f"{rule.place}: `{rule.name}` isn't as it was when this was proved last"
         laws = [f"{law.name} ({law.place})" for law in laws_naming_directly_or_indirectly(rule, folders)]

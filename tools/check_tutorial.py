@@ -29,7 +29,7 @@ def main(arguments: list[str]) -> int:
     folder = parser.parse_args(arguments).folder.absolute()
     folder.mkdir(parents=True)
     tree = folder / "pdregress"
-    # What was built before doesn't count: a newcomer has nothing.
+    # Use no build that was kept before: a newcomer has none.
     os.environ["XDG_CACHE_HOME"] = str(folder / "cache")
     subprocess.run(["git", "clone", "-q", TOP, tree], check=True)
     begin = time.monotonic()

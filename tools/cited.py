@@ -1,4 +1,4 @@
-"""What a refused contract cites: definitions of specs/, also through others, each with its place.
+"""The definitions of specs/ that a refused contract cites, also through others, each with its place.
 
 The kit names a line of a function. The contract stands below the function's head, a clause on each line, and the
 file's lines `ghost use` say which definitions it names.

@@ -23,7 +23,7 @@ class Copy:
     stamps: dict[str, str]
 
     def find_first_path_changed_since_copied(self) -> str | None:
-        """What of it isn't as it was copied, if anything is."""
+        """The first path that isn't as it was copied, if there is one."""
         differing = self.stamps.items() ^ stamps_of_what_proofs_read(self.tree, self.crates).items()
         return min((path for path, _ in differing), default=None)
 

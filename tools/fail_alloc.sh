@@ -1,5 +1,5 @@
 #!/bin/sh
-# Refuses each allocation in turn, one a run, the numbers going up until runs meet no refusal. What is run is a row:
+# Refuses each allocation in turn, one a run, the numbers going up until runs meet no refusal. The rows are:
 #   - the calls below the programs, table by table of crates/test_book/memory.txt, and those of a desk and of its workers,
 #     and a run of the program over memory, of crates/test_desk/memory.txt: a call that is refused is made again, and it
 #     and all calls after it are to answer as with memory, or as a row says of a worker that left. Where the
@@ -74,7 +74,7 @@ end() { # what there is to say of a row
     fi
 }
 
-# What comes out with memory; and which allocation is the first to be refused, and how far it is to the next.
+# Keeps the output and the status with memory; sets the first allocation to refuse, and how far it is to the next.
 run_whole() { # COMMAND..
     whole=0
     env LD_PRELOAD="$work/fail_alloc.so" FAIL_AT=0 FAIL_COUNT="$work/count" "$@" \

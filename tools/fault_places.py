@@ -13,7 +13,7 @@ BLOCK = re.compile(r"(?:impl|trait)\b(?:<.*?>)? (?:.*? for )?(?:\w+::)*(\w+)")
 HEAD = re.compile(r"( *)(?:pub(?:\([^)]*\))? )?(?:const )?fn (\w+)")
 COMMENT = re.compile(r"//.*")
 QUOTED = re.compile(r'b?"(?:[^"\\]|\\.)*"|b?\'(?:[^\'\\]|\\.)\'')
-# What a line has that can go wrong by itself: an operation, an index, or what ends the program.
+# The parts of a line that can go wrong by themselves: an operation, an index, or a call that ends the program.
 LIKELY = {
     "sums": re.compile(r" (?:[-+*/%]|<<|>>)=? |\.(?:sum|product|pow)\("),
     "indexes": re.compile(r"[\w)\]]\["),

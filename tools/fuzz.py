@@ -21,13 +21,13 @@ MOST_KIB = 16 * 1024
 # How many workers there are beside a stream, and how many streams a round has.
 WORKERS = 8
 STREAMS = 100
-# What a word of the program can hold: the system takes no longer one, and none with a zero in it.
+# How many octets an argument has at most: the system takes hardly longer ones, and none with a zero in it.
 WORD = 125_000
 LAST_LINE = re.compile(
     rb"total \d+ pass \d+ fail \d+ syntax \d+ unsupported \d+ limit \d+ pending \d+\n\Z"
 )
 FAULT = re.compile(rb"pdregress: \d+ [A-Za-z]+\n")
-# What a block may have: lines of octets that print, each of about 200 of them at most.
+# The blocks of explanations: lines of octets that print, each with 300 of them at most after its place or indent.
 BLOCKS = re.compile(rb"(?:[A-Za-z0-9_.-]+:\d+: [ -~]{1,300}\n(?:  [ -~]{1,300}\n)*)*")
 
 NAMES = [b"a", b"b", b"c", b"script", b"a.b", b"x" * 64]

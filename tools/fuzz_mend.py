@@ -180,7 +180,7 @@ def main() -> int:
 
 
 def mend_by_given_or_unproved_program(cases: Sequence[Spoiled], program: Path | None) -> list[rt_try.TryResult]:
-    """What the program answers to each."""
+    """The program's result for each case."""
     if program is None:
         return mend_results_by_rt_try(cases)
     with ThreadPoolExecutor() as pool:

@@ -25,7 +25,7 @@ def id_file_in_folder_of_kit(command: str) -> str:
 
 
 def read_kit_id_file_or_empty(command: str) -> str:
-    """What names the kit of a command: the words of that file. Without one it is empty, which is the name of no kit."""
+    """The name of a command's kit: the words of its KIT-ID. Without one it is empty, which is the name of no kit."""
     try:
         with open(id_file_in_folder_of_kit(command), encoding="utf-8", errors="replace") as file:
             return " ".join(file.read().split())
@@ -34,6 +34,6 @@ def read_kit_id_file_or_empty(command: str) -> str:
 
 
 def kit_id_on_path() -> str | None:
-    """What names the kit that is on the PATH, or None where there is none."""
+    """The name of the kit that is on the PATH, or None where there is none."""
     command = find_kit_command_on_path()
     return None if command is None else read_kit_id_file_or_empty(command)

@@ -53,7 +53,7 @@ class Mutant:
 
 @dataclass
 class Reader:
-    """What was read so far: the mutants, the file that the next change is of, and its old text."""
+    """A reader of mutants: those read so far, the file that the next change is of, and its old text."""
 
     need_tests: bool
     folders: tuple[str, ...] = CRATE_FOLDERS

@@ -158,7 +158,7 @@ def try_and_print_mutant(mutant: FileMutant, copies: TreeCopies) -> bool:
 
 
 def output_if_tests_fail_without_mutant(tests: Sequence[NamedTest], copies: TreeCopies) -> str:
-    """What tests of a kind print without a mutant, if one of them doesn't pass; a line of tests/shell is run alone."""
+    """The output of tests of a kind without a mutant, if one doesn't pass; a line of tests/shell is run alone."""
     places = list(dict.fromkeys(it.place for it in tests))
     with copies.lend_tree_without_restoring() as tree:
         status, printed = copies.run_tests_returning_status_and_output(tests[0].kind, places, tree, tests[0].line)

@@ -89,7 +89,7 @@ def count_failed_runs(test: ProgramTest, tree: Path, times: int, limits: RunLimi
 
 
 def read_case_output_errors_and_status(folder: Path, name: str) -> ProgramOutput:
-    """What was answered to a case; one that didn't end has no status."""
+    """The program's output for a case; a case without an answer has no status."""
     output, errors = ((folder / f"{name}.{kind}").read_bytes() for kind in ("output", "errors"))
     status = (folder / f"{name}.status").read_text()
     return ProgramOutput(output, errors, int(status)) if status.isdigit() else ProgramOutput(b"", errors, NO_STATUS)

@@ -59,7 +59,7 @@ class Commands:
                     os.killpg(process.pid, signal.SIGTERM)
 
     def map_unordered(self, items: Sequence[T], at_once: int, do: Callable[[T], R]) -> Iterator[R]:
-        """What is done with each item, some of them at once and the first ones first, as it ends."""
+        """The results of `do` for the items, each as it ends; some run at once, and the first ones begin first."""
         pool = ThreadPoolExecutor(max(1, at_once))
         try:
             for future in as_completed([pool.submit(do, item) for item in items]):

@@ -36,7 +36,7 @@ def program_path(program: str) -> str:
 
 
 def sums_file_text(program: dict[str, str], read: dict[str, str], name: str) -> bytes:
-    """What is kept: the checksum of a program, those of what its proof read, and what names the kit."""
+    """The text that is kept: the checksum of a program, those of what its proof read, and the name of the kit."""
     return checksum_lines_in_given_order({**program, **read}) + kit_line(name)
 
 
@@ -45,7 +45,7 @@ def kit_line(name: str) -> bytes:
 
 
 def kit_in_sums_or_empty(kept: bytes) -> str:
-    """What names the kit in what is kept, or nothing."""
+    """The name of the kit in the text that is kept, or an empty name."""
     last = kept[kept[:-1].rfind(b"\n") + 1 : -1]
     return os.fsdecode(last[len(KIT) :]) if last.startswith(KIT) else ""
 
@@ -77,7 +77,7 @@ def is_proved_keeping_stamps(top: str, program: str) -> bool:
         and stamps.would_later_changes_alter_each_stamp(before, probe)
         and places == list(paths_and_kinds_read_by_proof(top, program))
     ):
-        # What was read is what has these stamps only where all still have them.
+        # The files had these stamps when they were read only if all still have them.
         if before == stamps.stamps_of(top, looked_at):
             replace_file_if_possible(
                 f"{top}/{path}.stamps", stamps.nul_separated_stamps_file_octets(program, name, before)
@@ -86,7 +86,7 @@ def is_proved_keeping_stamps(top: str, program: str) -> bool:
 
 
 def read_or_empty(path: str) -> bytes:
-    """What a file has; nothing where it can't be read."""
+    """The octets of a file; none where it can't be read."""
     with contextlib.suppress(OSError), open(path, "rb") as file:
         return file.read()
     return b""
@@ -132,7 +132,7 @@ def print_program_path_sums_or_files(top: str, arguments: list[str]) -> int:
 
 
 def path_sums_or_files_to_print(options: list[str], top: str, program: str) -> bytes:
-    """What is printed with these options: nothing where a program isn't proved."""
+    """The octets to print with these options; without options there are none where the program isn't proved."""
     if options == ["--files"]:
         return b"".join(os.fsencode(it) + b"\0" for it in paths_deciding_proof(top, program))
     if options == ["--sums"]:

@@ -34,20 +34,20 @@ if TYPE_CHECKING:
     import psutil
 
 TOP = Path(__file__).resolve().parents[1]
-# What two lanes take at most, in octets, and how many jobs each of them gives a proof.
+# The memory that two lanes take at most, in octets, and how many jobs each of them gives a proof.
 FOLDER = 16_000_000_000
 JOBS = 2
 # How the folder of a lane begins that stands in what is kept of a crate.
 LANE = "lane-"
-# What a crate takes that wasn't measured here: seconds, and more for each octet of it and of the crates below it.
+# The seconds for a crate that wasn't measured here, and more for each octet of it and of the crates below it.
 EACH = 17.0
 EACH_OCTET = 0.31e-3
 EACH_OCTET_BELOW = 0.056e-3
 # A proof over what an earlier one kept takes this part of that, where it wasn't measured.
 AGAIN = 0.25
-# What a crate takes in which nothing has changed, in seconds.
+# The seconds that a crate takes in which nothing has changed.
 STANDING = 2.0
-# What a process does: the crate, and whether its proof, its edits or a run.
+# The work of a process: the crate, and whether its proof, its edits or a run.
 Work = Tuple[str, str]
 
 
@@ -264,13 +264,13 @@ def moment_of_last_proof_or_zero(out: Path) -> float:
 
 
 def times_key_by_whether_incremental_is_kept(crate: str) -> str:
-    """What the times call a proof of a crate: one over what is kept is another than one from nothing."""
+    """The key of a crate's proof in the times: one over what is kept has another key than one from nothing."""
     kept = TOP / "crates" / crate / "out" / "incremental"
     return f"{crate} again" if kept.is_dir() else crate
 
 
 def remaining_crates_and_minutes_in_words(crates: int, seconds: float) -> str:
-    """What is left, in words.
+    """The crates and the minutes that are left, in words.
 
     >>> remaining_crates_and_minutes_in_words(24, 1561.0)
     '24 crates and about 26 minutes'
@@ -283,7 +283,7 @@ def remaining_crates_and_minutes_in_words(crates: int, seconds: float) -> str:
 
 
 class Used(NamedTuple):
-    """What a process does, who started it, and its seconds at the last look: its own, and its ended children's."""
+    """The work of a process, its parent, and its seconds at the last look: its own, and its ended children's."""
 
     work: Work | None
     parent: psutil.Process | None
@@ -293,7 +293,7 @@ class Used(NamedTuple):
 
 @dataclass
 class SeenProcesses:
-    """What was seen of the processes, of each work, from when to when, and of each crate, how long."""
+    """The processes seen so far, from when to when each work was seen, and for how long each crate."""
 
     processes: dict[psutil.Process | None, Used] = field(default_factory=dict)
     spans: dict[Work, tuple[float, float]] = field(default_factory=dict)
@@ -301,7 +301,7 @@ class SeenProcesses:
 
 
 def crate_and_kind_of_work_of_process(words: list[str], folder: str) -> Work | None:
-    """What a process does, by its words and its folder; none where these tell nothing.
+    """The work of a process, by its words and its folder; none where these don't show it.
 
     >>> crate_and_kind_of_work_of_process(["rattle", "build", "--crate-name", "pd_lex"], "/tmp/x/crates/pd_lex")
     ('pd_lex', 'proof')
@@ -349,7 +349,7 @@ def processor_seconds_by_crate(seen: SeenProcesses) -> dict[str, float]:
 
 
 def critical_path_to_last_ended_work(spans: dict[Work, tuple[float, float]], uses: dict[str, list[str]]) -> list[Work]:
-    """What ended last, and what it waited for, first to last: edits for the proof, a proof for those of crates below.
+    """The chain of work that ended last, first to last: edits waited for the proof, a proof for those of crates below.
 
     >>> spans = {("a", "proof"): (1, 5), ("b", "proof"): (1, 4), ("c", "proof"): (6, 9), ("c", "edits"): (9, 30)}
     >>> critical_path_to_last_ended_work(spans, {"a": [], "b": [], "c": ["a", "b"]})

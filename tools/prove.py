@@ -1,13 +1,13 @@
 """Proves and builds programs, all where none is named, and the crates below them: prove [--lanes N] [CRATE..]
 
-A library that is named is proved with those below it. What is proved are copies of the files that the proofs read, made
-at the beginning. So an edit meanwhile is in no program, whether it stays or is taken back: where one stays, a line says
-that the tree has changed since. The errors name the tree's own files.
+A library that is named is proved with those below it. The proofs read copies of their files, made at the beginning. So
+an edit meanwhile is in no program, whether it stays or is taken back: where one stays, a line says that the tree has
+changed since. The errors name the tree's own files.
 
 Two crates are proved side by side, in two lanes, where the machine has four processors and 16 GB of free memory.
-`rt lib` locks each library below the one that it proves, so each lane works in a copy of its own. What is kept of a
-crate comes into its lane by hard links, and so does what is proved into the tree and the other lane. The copies are
-gone at the end.
+`rt lib` locks each library below the one that it proves, so each lane works in a copy of its own. The files that are
+kept of a crate come into its lane by hard links, and so do those of a proof into the tree and the other lane. The
+copies are gone at the end.
 
 Prints on standard error which crate is proved, how many are left, and about how long they take: as long as they took
 last on this machine, as a file below ~/.cache/pdregress says. Where one isn't proved, it prints each error with its

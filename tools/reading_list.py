@@ -78,7 +78,7 @@ def read_index_of_names_in_all_crates() -> Index:
 
 
 def places_defining_word_through_imports(index: Index, file: str, word: str) -> list[ListedPlace]:
-    """What a word of a file stands for, also where that file has it from another one."""
+    """The places that define a word of a file, one or none, also where that file has it from another one."""
     head, _, rest = word.partition(".")
     found = index.get((file, head))
     while isinstance(found, tuple):

@@ -45,7 +45,7 @@ class TryCase:
 
 @dataclass(frozen=True)
 class TryOutput:
-    """What a program wrote on its two outputs, and its status."""
+    """The standard output of a program, its standard error, and its status."""
 
     output: bytes
     errors: bytes
@@ -133,7 +133,7 @@ def write_case(file: Path, case: TryCase) -> None:
 
 
 def split_rt_try_log_into_cases(names: Sequence[bytes], called: TryCall) -> Iterator[bytes]:
-    """What `rt try` printed for each case, ended by a line as the last one of a single run."""
+    """The lines that `rt try` printed for each case, the last one as it is for a single run."""
     begin = 0
     for name in names:
         end = re.compile(rb"^case=%b (.*\n)" % name, re.MULTILINE).search(called.printed, begin)

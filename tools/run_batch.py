@@ -2,9 +2,9 @@
 
 run_batch.py [--seconds N] [--tree FOLDER] STARTS ANSWERS
 
-The tree is this one, or FOLDER. What is built is its batch.rattle, or else this tree's, which starts the programs in
-memory, as often as its input says, or what comes through a named pipe. The folder STARTS has such inputs, which are run
-one after the other, and the folder ANSWERS gets for each file NAME.output, NAME.errors and NAME.status, as run_cases.py
+The tree is this one, or FOLDER. Its batch.rattle is built, or else this tree's, which starts the programs in memory, as
+often as its input says, or the named pipe that its input names. The folder STARTS has such inputs, which are run one
+after the other, and the folder ANSWERS gets for each file NAME.output, NAME.errors and NAME.status, as run_cases.py
 puts them. Where nothing was run, a line on standard error says why, with what `rt try` printed, and the status is 2;
 else it is 0.
 """
@@ -63,7 +63,7 @@ def crates_txt_with_libraries_of_other_program(table: str) -> str:
 
 
 def rewrite_temporary_paths_to_source_tree(printed: bytes, folder: Path, tree: Path) -> bytes:
-    """What `rt try` printed, with the places in the tree."""
+    """The lines that `rt try` printed, with the places in the tree."""
     printed = rt_try.printed_lines_with_whole_paths(PROGRAM, printed, folder)
     printed = printed.replace(
         os.fsencode(folder / "crates" / PROGRAM / "src" / "main.rt"),

@@ -27,7 +27,7 @@ FAULT = 2
 BLOCK = 1 << 20
 # With one of these a program answers before it reads anything.
 HELP = ("--help", "-h")
-# What a terminal clears from the cursor on, and what is shown of each phase of a build.
+# The sequence by which a terminal clears a line from the cursor on, and the words shown for each phase of a build.
 CLEAR = "\x1b[K"
 PHASES = {
     building.WAITING: "another call builds it",
@@ -88,7 +88,7 @@ def copy_standard_input_cutting_at_limit(file: Path) -> None:
 
 
 class BuildProgress:
-    """Shows on a terminal which phase of a build goes on, and for how long. What it shows is gone at its end."""
+    """Shows on a terminal which phase of a build goes on, and for how long, and clears the line at the end."""
 
     def __init__(self, program: str) -> None:
         self._program = program

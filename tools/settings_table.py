@@ -39,7 +39,7 @@ class Setting:
 
     @property
     def shown_range_or_words_without_unit(self) -> str:
-        """What it takes, as pages say it."""
+        """The range or the words that it takes, as pages say them."""
         if self.ends:
             return f"{self.ends[0]:,} to {self.ends[1]:,}"
         return ", ".join(f"`{word}`" for word in self.words)

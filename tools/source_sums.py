@@ -1,4 +1,4 @@
-"""What the proof of a crate reads: its files in a tree, with their checksums.
+"""The files in a tree that the proof of a crate reads, with their checksums.
 
 A proof reads crates.txt, HANDLES, and of the crate and each one below it the files `.rt` and `.antt` of src/, specs/
 and proofs/. Files are named by paths below the top of the tree, such as `crates/low/src/lib.rt`, and a tree by its top.
@@ -16,7 +16,7 @@ HANDLES = "HANDLES"
 PARTS = ("src", "specs", "proofs")
 KINDS = (".rt", ".antt")
 ESCAPES = {ord("\n"): "\\n", ord("\\"): "\\\\"}
-# What a place is: a file that is read, a folder, or else the reason why no proof reads the crate.
+# The kinds of places: a file that is read, a folder, or else the reason why no proof reads the crate.
 FILE = "file"
 FOLDER = "folder"
 LINK = "is a link: put the file or folder itself there"
@@ -78,7 +78,7 @@ def paths_and_kinds_read_in_crates(top: str, crates: Iterable[str]) -> Iterator[
 
 
 def source_paths_and_kinds_under_path(path: str, place: str) -> Iterator[tuple[str, str]]:
-    """What is read of a path, which is at this place, and of what is below it."""
+    """The paths that are read from `path` down, each with its kind; `place` is where `path` lies."""
     if os.path.islink(place):
         # A link of an editor, which leads to nothing, isn't read.
         if os.path.exists(place):

@@ -3,15 +3,15 @@
 A stamp has the moment of the last change by the file system's clock, which no program can set, and the number of the
 file, its size, and more. Stamps are compared for equality alone, so a clock that was set back lets no change pass. But
 the clock stands still for some milliseconds at a time: a file that changes twice in one tick may have one stamp before
-and after. So a stamp is kept only once the clock has moved on since. What a program writes through a mapping that it
-shares with a file and wrote to just before gives the file no other stamp; no editor and no git writes so.
+and after. So a stamp is kept only once the clock has moved on since. Where a program writes through a mapping that it
+shares with a file, a write just after another one gives the file no other stamp; no editor and no git writes so.
 """
 from __future__ import annotations
 
 import os
 
 ABSENT = "-"
-# What kept stamps end with, so that none are taken for whole that were cut short.
+# The end of kept stamps, so that none are taken for whole that were cut short.
 END = "end"
 
 

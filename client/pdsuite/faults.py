@@ -1,4 +1,4 @@
-"""What ends a command before its work is done."""
+"""The faults that end a command before its work is done."""
 
 
 class Fault(Exception):
@@ -14,5 +14,5 @@ class CutShortError(Fault):
 
 
 def error_reason(error: OSError | ValueError) -> str:
-    """What the system says of a call that it refused, or Python of one that it can't make, as with a NUL in a path."""
+    """The system's reason for refusing a call, or Python's for not making one, as with a NUL in a path."""
     return (isinstance(error, OSError) and error.strerror) or str(error)

@@ -12,7 +12,7 @@ _YOUNG = 20_000_000
 # The same where a file system keeps times in whole seconds.
 _COARSE = 2_000_000_000
 _SECOND = 1_000_000_000
-# What was written so many nanoseconds ago may still be written.
+# A file that was written less than so many nanoseconds ago may still be written to.
 _FRESH = 500_000_000
 
 Stamp = tuple[int, ...]
@@ -21,7 +21,7 @@ T = TypeVar("T")
 
 @dataclass(frozen=True, slots=True)
 class StampedValue(Generic[T]):
-    """What was read of a file, and the file's stamp then."""
+    """A value that was read from a file, and the file's stamp then."""
 
     value: T
     stamp: Stamp
@@ -42,7 +42,7 @@ def stamp_or_errno_of_file(path: str | Path) -> Stamp:
 
 
 def read_value_and_file_stamp(path: str | Path, read: Callable[[], T]) -> StampedValue[T]:
-    """What is read of a file, with its stamp."""
+    """Reads a value from a file, and answers it with the file's stamp."""
     begin = time.time_ns()
     stamp = stamp_or_errno_of_file(path)
     age = time.time_ns() - stamp[-2] if len(stamp) > 1 else _FRESH

@@ -45,7 +45,7 @@ class Stop:
         os.close(self._writer)
 
     def fileno(self) -> int:
-        """What can be read once a signal has come."""
+        """The descriptor that can be read once a signal has come."""
         return self._reader
 
     def raise_if_stopped(self) -> None:

@@ -68,7 +68,7 @@ class Browser:
         return texts
 
     def run(self, script: str, *words: str) -> object:
-        """What a script in the page answers."""
+        """The answer of a script that runs in the page."""
         execute: Any = self.driver.execute_script
         return execute(script, *words)
 

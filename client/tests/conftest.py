@@ -1,4 +1,4 @@
-"""What the tests are given: the built program, a fake program in its place, and calls of ./pdsuite."""
+"""The fixtures of the tests: the built program, a fake program in its place, and calls of ./pdsuite."""
 
 import os
 import shutil

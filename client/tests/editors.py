@@ -95,11 +95,11 @@ class EditorTerminal:
         self._tmux("send-keys", *keys)
 
     def shown(self) -> str:
-        """What is shown, without colours."""
+        """The text that is shown, without colours."""
         return self._tmux("capture-pane", "-p")
 
     def colored(self) -> str:
-        """What is shown, with colours as a terminal gets them."""
+        """The text that is shown, with colours as a terminal gets them."""
         return self._tmux("capture-pane", "-e", "-p")
 
     def wait(self, *words: str) -> None:

@@ -21,7 +21,7 @@ OLD_KEYS = ("byte_counting", "restart_after_idle", "recovery_rate")
 OLD_WORDS = ("pipe", "prr", "prr_crb")
 SENDER = "pass 1"
 
-# What is printed by keys of a script that doesn't pass, by its verdict and, where it fails, its kind.
+# The keys that are printed of a script that doesn't pass, by its verdict and, where it fails, its kind.
 KEYS: dict[str, dict[str, object]] = {
     "fail": {
         **{"untaken_packets": [], "untaken_sent_by": [], "more_untaken_packets": 0},
@@ -76,7 +76,7 @@ def write(mark: str, text: str) -> None:
 
 
 def act(words: list[str]) -> None:
-    """What is done at a settle, before the report."""
+    """Does what a script requests at a settle, before the report."""
     match words:
         case ["crash"]:
             os.kill(os.getpid(), SEGV)
@@ -117,7 +117,7 @@ def act(words: list[str]) -> None:
 
 
 def wants(name: str) -> list[str]:
-    """What a script says that is to be done."""
+    """The words of a script's first line, which say what is to be done."""
     return texts[name][0].decode("latin-1").split() if texts[name] else []
 
 
@@ -183,7 +183,7 @@ def lines(count: str) -> list[bytes]:
 
 
 def block(name: str, row: list[str], text: list[bytes]) -> bytes:
-    """What is printed of a script that doesn't pass."""
+    """The explanation of a script that doesn't pass."""
     match text[:1]:
         case [b"crash\n"]:
             os.kill(os.getpid(), SEGV)
@@ -208,10 +208,10 @@ def block(name: str, row: list[str], text: list[bytes]) -> bytes:
 
 
 def explained_by_keys(name: str, verdict: str, line: int, kind: list[str], text: list[bytes]) -> bytes:
-    """What is printed of a script that doesn't pass as JSON.
+    """The explanation of a script that doesn't pass, as JSON.
 
-    A line `WORDS: VALUE` of its text is printed by its key, and any other as what is found. Where all lines are empty,
-    or a packet comes first, all is printed that the program has of such a row.
+    A line `WORDS: VALUE` of its text is printed by its key, and any other but a packet or a comment as what is found.
+    Where all lines are empty, or a packet comes first, all is printed that the program has of such a row.
     """
     import json
 
@@ -236,7 +236,7 @@ def explained_by_keys(name: str, verdict: str, line: int, kind: list[str], text:
 
 
 def ending_of(name: str, words: bytes) -> bytes:
-    """What is printed of the end of a script that passes: the first number in the words is that of packets left."""
+    """The explanation of the end of a script that passes: the first number in the words is that of packets left."""
     if "--json" not in sys.argv:
         return f"{name}:1: pass: ".encode() + words
     import json
@@ -249,7 +249,7 @@ def ending_of(name: str, words: bytes) -> bytes:
 
 
 def explained(name: str) -> bytes:
-    """What is printed of a script that has run."""
+    """The explanation of a script that has run, or nothing."""
     first, *text = texts[name] or [b""]
     match first.decode("latin-1").split():
         case ["row", verdict, *row] if verdict != "pass":

@@ -19,7 +19,7 @@ NOTES = Path(os.environ["NOTES"])
 
 
 def output_of(program: str, words: list[str], given: bytes) -> "subprocess.CompletedProcess[bytes]":
-    """What a fake program says to this input."""
+    """The outputs and the status of a fake program that gets this input."""
     return subprocess.run([HERE / program, *words], input=given, capture_output=True)
 
 
@@ -62,7 +62,7 @@ def serve(starts: BinaryIO, output: BinaryIO) -> bool:
 
 
 def started(given: bytes) -> tuple[bytes, bool]:
-    """What comes of an input: of its starts, or of those that come through the pipes that it names."""
+    """Answers the starts of an input, or of a pipe that it names; the output, and whether no start ends by a fault."""
     if given.startswith(b"/"):
         requests, answers = given.decode().splitlines()
         with open(requests, "rb") as starts, open(answers, "wb") as pipe:

@@ -1,4 +1,4 @@
-"""What the tests share: what a call of ./pdsuite came to, scripts, and processes."""
+"""The helpers that tests share: the result of a call of ./pdsuite, scripts, and processes."""
 
 import os
 import re
@@ -24,13 +24,13 @@ OPENED = b"""0 socket(..., SOCK_STREAM, 0) = 3
 # The seconds after which a test gives up what hangs: long, so that a busy machine fails none.
 HANGS = 300.0
 TOTALS = ("pass", "fail", "syntax", "unsupported", "limit", "error", "not run")
-# What is counted apart, where there is any.
+# More counts of scripts, which the totals have only where they aren't 0.
 APART = ("known", "unexpected")
 
 
 @dataclass(frozen=True)
 class Called:
-    """What a call of pdsuite came to."""
+    """The status and the outputs of a call of pdsuite."""
 
     status: int
     out: str
@@ -38,13 +38,13 @@ class Called:
 
     @property
     def rows(self) -> list[str]:
-        """What it printed, without the totals, the lines below rows, what these mean, and warnings."""
+        """The lines that it printed, without the totals, the lines below rows, the meanings of rows, and warnings."""
         lines = [line for line in self.out.splitlines() if line[:2] != "  " and not line.startswith("total ")]
         return [_MEANT.sub(r"\1", line) for line in lines if _WARNED not in line]
 
     @property
     def warnings(self) -> list[str]:
-        """What it printed of scripts that pass and show nothing."""
+        """The lines that it printed of scripts that pass and show nothing."""
         return [line for line in self.out.splitlines() if _WARNED in line]
 
     @property
@@ -109,7 +109,7 @@ def ends(process: "subprocess.Popen[bytes]", number: signal.Signals) -> tuple[in
     return process.returncode, out.decode(), err.decode()
 
 
-# What a fake program explains all of that the program has of a packet that differs, and the lines of that.
+# A line below a row for which a fake program explains in full how a packet differs, and the lines of its block.
 PACKET = b"+0 > . 1:2(1) ack 1\n"
 BLOCK_LINES = [
     "script packet: +0 > . 1:2(1) ack 1",

@@ -182,7 +182,7 @@ class LspClient:
         return found
 
     def acted(self, uri: str, action: Json) -> str:
-        """What an action makes of a text."""
+        """The text that an action makes of an open one."""
         (change,) = action["edit"]["documentChanges"]
         document = self.documents[uri]
         assert change["textDocument"] == {"uri": uri, "version": document.version}

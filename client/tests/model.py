@@ -1,4 +1,4 @@
-"""Fakes of programs in this process. What one answers to a script depends on its text and its settings alone."""
+"""Fakes of programs in this process. Their answer to a script depends on its text and its settings alone."""
 
 import re
 import zlib

@@ -22,7 +22,7 @@ def schema_of(command: str) -> Any:
 
 @cache
 def validator(command: str) -> Draft202012Validator:
-    """What holds an object against the schema of a command."""
+    """A validator of objects by the schema of a command."""
     Draft202012Validator.check_schema(schema_of(command))
     return Draft202012Validator(schema_of(command))
 

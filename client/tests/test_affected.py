@@ -1,4 +1,4 @@
-"""What `pdsuite compare` says that a changed sender affects in its tree, by fake programs."""
+"""`pdsuite compare --affected`, by fake programs: it lists what a changed sender affects in its tree."""
 
 import json
 import shutil

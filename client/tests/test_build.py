@@ -52,7 +52,7 @@ def call(tree: Tree, *words: str | Path) -> Called:
 
 
 def calls(tree: Tree) -> list[str]:
-    """What of the kit was called since the last call of this."""
+    """The calls of the kit since the last call of this function, each by its first word."""
     file = tree.notes / "calls"
     found = file.read_text().splitlines() if file.exists() else []
     file.unlink(missing_ok=True)

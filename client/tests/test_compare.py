@@ -42,7 +42,7 @@ def compare(tree: Tree, *words: str | Path) -> Called:
 
 
 def untimed(out: str) -> str:
-    """What is printed, without the seconds."""
+    """An output up to the seconds in its last line."""
     lines = out.splitlines()
     return "\n".join([*lines[:-1], lines[-1].split(" in ")[0]])
 

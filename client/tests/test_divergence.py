@@ -62,7 +62,7 @@ def test_the_states_before_may_differ_and_a_state_alone_parts_nothing() -> None:
 
 
 def outcome(path: str, row: Row) -> ScriptOutcome:
-    """What came of a script."""
+    """The outcome of a script that has this row."""
     reported = () if row is PASS else ("state: x",)
     return ScriptOutcome(path, (), row, None, "" if row is PASS else "other octets", reported)
 

@@ -55,7 +55,7 @@ EMACS = """
 (princ (format "%s\\n" (match-string 0 (format "%s" (said script)))))
 (eglot-shutdown (eglot-current-server))
 """
-# What is shown of the source, and then of the script.
+# The diagnostic that is shown of the source, and then that of the script.
 PRINTED = ("error[mismatch]: wrong", "fail seq: so it is")
 LEFT = "pdsuite: the sender has changed: rows are old"
 
@@ -66,7 +66,7 @@ def tree(tmp_path: Path) -> Tree:
 
 
 def output_of(tree: Tree, words: Sequence[str | Path]) -> "subprocess.CompletedProcess[str]":
-    """What an editor says that is started beside the scripts."""
+    """The outputs and the status of an editor that is started in the folder of the scripts."""
     there = {**tree.environment, "SOURCE": str(tree.top / SOURCE), "LC_ALL": "C.UTF-8"}
     return subprocess.run(words, cwd=tree.suite, env=there, capture_output=True, text=True, timeout=HANGS)
 

@@ -1,4 +1,4 @@
-"""What is printed below the row of a script that doesn't pass."""
+"""The explanation that is printed below the row of a script that doesn't pass."""
 
 import json
 import os
@@ -186,7 +186,7 @@ def test_each_row_of_the_examples_is_explained_by_the_built_program(programs: Pa
 
 
 def test_each_script_runs_once(tmp_path: Path, fake_program: Path, call: Call) -> None:
-    """Whoever gives its row says why, too, and what it leaves at its end."""
+    """One run of a script gives its row, its explanation, and the warning at its end."""
     teed = 'tee -a asked | "$0.py" "$@"\nexit'
     folder = wrapped(tmp_path / "programs", fake_program, runs="echo >>others", explains=teed)
     for number in range(130):

@@ -126,7 +126,7 @@ def test_a_program_that_ends_on_a_script_is_told_of_once(fake_program: Path, tmp
 
 
 def rows_of_the_programs() -> list[str]:
-    """What rows of the programs want of `--json`, an object each."""
+    """The lines that rows of the programs expect of `--json`, an object each."""
     files = sorted((TOP / "tests/cases/runs").glob("*.cases"))
     lines = [line for file in files for line in file.read_text().splitlines()]
     reported = (line.removeprefix("! ") for line in lines if line.startswith('! {"'))

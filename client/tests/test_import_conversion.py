@@ -18,7 +18,7 @@ OPEN = """0 socket(..., SOCK_STREAM, IPPROTO_TCP) = 3
 
 
 def came(text: str, own: dict[str, Value] | None = None, keep: bool = False) -> Imported | NotImported:
-    """What comes of a script that has nothing beside it."""
+    """Converts a script that has no file beside it."""
 
     def load(path: str) -> str:
         raise UnfitTextError("No such file or directory")
@@ -34,7 +34,7 @@ def imported(text: str, own: dict[str, Value] | None = None, keep: bool = False)
 
 
 def counted(script: Imported) -> list[tuple[Heading, str]]:
-    """What was done to a script."""
+    """The findings about a script, each by its heading and its words."""
     return [(it.heading, it.words) for it in script.findings]
 
 

@@ -33,7 +33,7 @@ COMMANDS: list[tuple[str, list[SetupCommand]]] = [
     ("ip route change default initcwnd 2 2> /dev/null", [Metric("initcwnd", "2")]),
     ("./defaults.sh\n", [Defaults("./defaults.sh")]),
     ("../common/defaults.sh", [Defaults("../common/defaults.sh")]),
-    # What isn't read keeps its words, and nothing of it counts.
+    # A command that isn't read keeps its words, and nothing of it counts.
     ("sysctl net.ipv4.tcp_sack", [Other(("sysctl", "net.ipv4.tcp_sack"))]),
     ("sysctl -q a=1 b", [Other(("sysctl", "-q", "a=1", "b"))]),
     ("sysctl -p file", [Other(("sysctl", "-p", "file"))]),
@@ -100,7 +100,7 @@ def no_file(path: str) -> str:
 
 
 def looked(text: str, place: CommandPlace = CommandPlace.SETUP, file: str | None = None) -> ParsedCommand:
-    """What the commands of a text say, beside a defaults.sh with a text, if any."""
+    """Parses the commands of a text; `file` is the text of a defaults.sh beside it, if there is one."""
 
     def load(path: str) -> str:
         return no_file(path) if file is None else file
@@ -109,7 +109,7 @@ def looked(text: str, place: CommandPlace = CommandPlace.SETUP, file: str | None
 
 
 def came_of(text: str, own: dict[str, Value] | None = None, smss: int = 1000, file: str | None = None) -> Setup:
-    """What a set-up comes to."""
+    """The set-up that the commands of a text lead to."""
     return setup_from_lines(looked(text, file=file).lines, smss, {}, own)
 
 

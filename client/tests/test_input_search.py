@@ -254,7 +254,7 @@ def test_what_is_reached_is_counted_by_states() -> None:
     reached.count_reached_by_input(
         STATE + "+0.2 > . 1:2(1)\n//= at 0.300000 TIME-WAIT una:1 expiry:none\n", ["mss"], ["sack"]
     )
-    # What is on the way before a connection is established is a SYN/ACK alone.
+    # Before a connection is established, only a SYN/ACK is on the way, and no data.
     reached.count_reached_by_input(
         "+0 > S. 0:0(0) ack 1\n//= at 0.100000 SYN-RECEIVED una:0 FlightSize:1 expiry:1.100000\n", [], []
     )

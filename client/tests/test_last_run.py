@@ -1,4 +1,4 @@
-"""What a run leaves for the next one: which scripts failed last, and what is new since."""
+"""The report that a run leaves for the next one: which scripts failed last, and what is new since."""
 
 import fcntl
 import json

@@ -1,4 +1,4 @@
-"""What each line of a script that fails was met by: the recording of its inputs beside what it expects."""
+"""The line diff of a script that fails: the recording of its inputs beside what it expects."""
 
 from pathlib import Path
 
@@ -26,7 +26,7 @@ WRITE = "+0 write(4, ..., 1000) = 1000"
 
 
 def met(script: str, row: Row, *recorded: tuple[str, str], block_lines: tuple[str, ...] = ()) -> LineDiff:
-    """What the lines of a script after the opening were met by, where these were recorded, each at its moment."""
+    """The line diff of a script after the opening, where these events were recorded, each at its moment."""
     text = OPENED_RECORDED + "".join(f"{line}\n//= at {at} {STATE}\n" for line, at in recorded)
     return line_diff_or_recording_fault(row, block_lines, OPENED.decode() + script, Recording(text), ())
 

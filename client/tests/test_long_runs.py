@@ -31,7 +31,7 @@ class Starts:
 
 @pytest.fixture
 def starts() -> Starts:
-    """What starts models."""
+    """Starts the models of `fleet`."""
     return Starts()
 
 

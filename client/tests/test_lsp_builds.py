@@ -29,7 +29,7 @@ def served(tree: Tree) -> LspClient:
 
 
 def lens(client: LspClient, uri: str) -> str:
-    """What stands above a script."""
+    """The title of the first lens above a script; empty where there is none."""
     titles = [it["command"]["title"] for it in client.request("textDocument/codeLens", {"textDocument": {"uri": uri}})]
     return str(titles[0]) if titles else ""
 

@@ -1,4 +1,4 @@
-"""What `pdsuite lsp` answers by the built programs: hover, actions, lenses, completion and outline."""
+"""The answers of `pdsuite lsp` by the built programs: hover, actions, lenses, completion and outline."""
 
 from pathlib import Path
 
@@ -64,7 +64,7 @@ def lead_past(client: LspClient, uri: str) -> list[str]:
         client.put(uri, after)
         left = [it for it in client.settled(uri) if it["code"] != "warning"]
         added = max(0, after.count("\n") - text.count("\n")) if "Insert" in action["title"] else 0
-        # What a text breaks off in may have begun before.
+        # The event in which a text breaks off may have begun in the line before.
         begun = 1 if found[0]["code"] == "syntax" and "Switch" in action["title"] else 0
         assert not left or left[0]["range"]["start"]["line"] > line + added - begun, (action["title"], text, after)
         assert not left or not action["title"].startswith(("Record", "Mend")), (action["title"], text, after)
@@ -74,7 +74,7 @@ def lead_past(client: LspClient, uri: str) -> list[str]:
 
 
 def titles(client: LspClient, workspace: Path, text: str) -> list[str]:
-    """What is offered for a text that doesn't pass."""
+    """The titles of the actions that are offered for a text that doesn't pass."""
     uri = client.open(workspace / f"{len(client.documents)}.pkt", text)
     (found,) = client.settled(uri)
     return [it["title"] for it in client.actions(uri, found["range"]["start"]["line"])]
@@ -157,7 +157,7 @@ def test_lenses_say_the_verdict_and_the_steps(client: LspClient, workspace: Path
     first, draw = client.request("textDocument/codeLens", params)
     assert first["command"]["title"].startswith("fail 9 seq; the last change ran ")
     assert draw["command"] == {"title": "draw", "command": "pdsuite.draw", "arguments": [uri]}
-    # What another script, or the same text in another version, has run is no change of this one.
+    # A run of another script, or of the same text in another version, is no change of this one.
     other = client.open(workspace / "b.pkt", PASSES)
     client.settled(other)
     assert client.request("textDocument/codeLens", params)[0] == first

@@ -1,4 +1,4 @@
-"""What `pdsuite lsp` reports of texts is what `pdsuite run` says of them, whatever was typed before."""
+"""`pdsuite lsp` reports of texts what `pdsuite run` reports of them, whatever was typed before."""
 
 import json
 import os
@@ -25,7 +25,7 @@ def test_texts_of_all_kinds_are_those_of_a_run(client: LspClient, workspace: Pat
 
 
 def rows(client: LspClient) -> dict[str, list[tuple[str, int, str]]]:
-    """What is reported of each open script: code, line and whether it counts as an error, without what is expected."""
+    """The diagnostics of each open script: code, line, and the first line of the message."""
     return {
         uri: [(it["code"], it["range"]["start"]["line"] + 1, it["message"].splitlines()[0]) for it in found]
         for uri, (_, found) in client.diagnostics.items()
@@ -63,7 +63,7 @@ def compare(client: LspClient, workspace: Path, programs: Path) -> None:
 
 
 def keyed(client: LspClient, chance: random.Random, uri: str) -> list[Json]:
-    """What a moment at the keyboard changes of a text."""
+    """Random changes of a text, like those of a moment at the keyboard."""
     document = client.documents[uri]
     lines = document.text.split("\n")
 

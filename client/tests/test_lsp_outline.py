@@ -1,4 +1,4 @@
-"""What the language server makes of comments, and what it says of settings, calls and flags by the documents."""
+"""The language server's outline of comments, and its words on settings, calls and flags by the documents."""
 
 from pdsuite.lsp import doc_lookup
 from pdsuite.lsp.comments import whole_line_comment_blocks_of, comment_foldings_of, section_symbols_of

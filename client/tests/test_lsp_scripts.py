@@ -1,4 +1,4 @@
-"""What the language server makes of rows, explanations and recordings, without a program."""
+"""Actions, diagnostics and hovers of the language server by rows, explanations and recordings, without a program."""
 
 from typing import Any
 

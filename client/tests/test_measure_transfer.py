@@ -30,7 +30,7 @@ IW_10: Settings = (("initial_window", "rfc6928"),)
 def delivered(
     folder: Path, path: NetworkPath, sizes: Sequence[int], settings: Settings = (), seeds: Sequence[str] = ("",)
 ) -> list[TransferResult]:
-    """What comes of transfers of these sizes, by each of these seeds."""
+    """The results of transfers of these sizes, by each of these seeds."""
     games = [play_transfer_as_generator(path, size, seed, ROOM) for size in sizes for seed in seeds]
     with Stop(()) as stop:
         return [whole(it) for it in play_transfers(games, folder / "pdregress", settings, stop)]

@@ -18,7 +18,7 @@ KEPT = CorpusEntry(
 
 
 def made(theme: Theme | None) -> list[Packet | Call]:
-    """What variations put in that wasn't there."""
+    """The packets and calls that variations put in and that weren't there."""
     varying = InputMutator(1, Emphasis(themes=frozenset([theme] if theme else [])))
     variations = [varying.mutate_inputs_and_maybe_truncate(KEPT) for _ in range(600)]
     return [it.what for one in variations for it in one.begun.events if it.what != KEPT.inputs.events[0].what]

@@ -22,7 +22,7 @@ _SPACE = re.compile(r"[\s$]+")
 
 
 def output(*words: str | Path, **more: str) -> str:
-    """What a command says, on both outputs; it may end with any status."""
+    """All that a command prints, on both outputs; it may end with any status."""
     environment = {**os.environ, "LC_ALL": "C.UTF-8", **more}
     printed = subprocess.run(words, stdin=subprocess.DEVNULL, capture_output=True, text=True, env=environment)
     return printed.stdout + printed.stderr
@@ -39,7 +39,7 @@ def clone_of_tools(folder: Path) -> Path:
 
 
 def git(folder: Path, *words: str) -> str:
-    """What git says in a folder, at a fixed time."""
+    """The output of git in a folder, at a fixed time."""
     who = {f"GIT_{role}_{what}": "a@b" for role in ("AUTHOR", "COMMITTER") for what in ("NAME", "EMAIL")}
     when = {f"GIT_{role}_DATE": "2026-01-02T12:00:00Z" for role in ("AUTHOR", "COMMITTER")}
     environment = {**os.environ, **who, **when}
@@ -176,7 +176,7 @@ def root(package: Path, tmp_path_factory: pytest.TempPathFactory) -> Iterator[Pa
 
 
 def in_root(folder: Path, *words: str, text: str = "", **more: str) -> Called:
-    """What a command comes to in a root, with nothing of this environment."""
+    """Calls a command in a root, with nothing of this environment."""
     environment = {"PATH": "/usr/sbin:/usr/bin:/sbin:/bin", "HOME": "/root", "LC_ALL": "C.UTF-8", **more}
     done = subprocess.run(["chroot", folder, *words], input=text.encode(), capture_output=True, env=environment)
     return Called(done.returncode, done.stdout.decode(), done.stderr.decode())

@@ -9,7 +9,7 @@ import pytest
 from tests.helpers import TOP
 
 CLIENT = TOP / "client/pdsuite"
-# The lowest first. What stands beside the packages knows none but the first, and main.py all.
+# The lowest first. A module beside the packages knows none of them but the first, and main.py knows all.
 ORDER = (
     *("output", "scripts", "packetdrill", "programs", "imports", "run", "compare", "search", "diagram", "reports"),
     *("page", "measure", "watch", "lsp", "commands"),

@@ -300,7 +300,7 @@ def test_whether_a_program_is_up_to_date_is_asked_once(tmp_path: Path, fake_prog
     (tmp_path / "suite/pdsuite.toml").write_text('["a.pkt"]\nmss = 1000\n')
     done = subprocess.run([command, "run", "suite"], cwd=tmp_path, env=without_programs(), capture_output=True)
     assert (done.returncode, done.stderr) == (1, b"")
-    # What the answer depends on is read first, so that a change after that is seen.
+    # The files on which the answer depends are listed first, so that a change after that is seen.
     assert (tmp_path / "asked").read_text() == "--files\npdregress\n"
 
 

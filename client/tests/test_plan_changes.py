@@ -1,4 +1,4 @@
-"""What a change of the folders means: a function of two states, tested without folders or programs."""
+"""The plan for a change of the folders: a function of two states, tested without folders or programs."""
 
 import random
 from collections import Counter
@@ -154,7 +154,7 @@ def random_states(chance: random.Random, count: int) -> Iterator[dict[str, Wante
 
 
 def carried_out(run: RunContents, change: RunChange, most: int) -> RunContents:
-    """What a run of so many scripts at most holds once it has done what its change says, act by act."""
+    """The contents of a run, of so many scripts at most, after it has done its change, act by act."""
     texts = {path: text.octets.split(b"\n")[: text.lines] for path, text in run.texts.items()}
     settings = settings_words(run.settings)
     for act in change.acts:
@@ -178,7 +178,7 @@ def carried_out(run: RunContents, change: RunChange, most: int) -> RunContents:
 
 
 def hold(runs: list[RunContents], state: Mapping[str, WantedScript]) -> list[RunContents]:
-    """What each run holds once it has taken its change, and then the new ones."""
+    """The contents of each run after its change, and then those of the new runs."""
     after = list(runs)
     for change in plan_changes(runs, state):
         if change.run is None:

@@ -1,4 +1,4 @@
-"""What comes first in a search, and that the same seed draws the same inputs: plain functions, and a fake program."""
+"""The emphasis of a search, and that the same seed draws the same inputs: plain functions, and a fake program."""
 
 from itertools import islice
 
@@ -46,7 +46,7 @@ def test_settings_that_come_first_are_drawn_in_most_plans_and_fixed_ones_in_none
 
 
 def drawn(seed: int) -> list[object]:
-    """What is tried in three lists, where all that was played is learnt from."""
+    """The inputs that are tried in three lists, where all that was played is learnt from."""
     drawing = CandidateLists(seed, [12, 12, 24])
     tried: list[object] = []
     for games in drawing.input_lists():

@@ -1,4 +1,4 @@
-"""What turned between two reports: a function of their rows."""
+"""The scripts that turned between two reports: a function of their rows."""
 
 import random
 from collections.abc import Mapping
@@ -27,7 +27,7 @@ def rows(**each: Row) -> Mapping[str, SavedRow]:
 
 
 def turned(before: Row | None, now: Row | None) -> RowChange | None:
-    """What is reported of one script that had and has these rows."""
+    """The change of one script that had and has these rows, if it turned."""
     each = row_changes_sorted_by_kind({} if before is None else rows(a=before), {} if now is None else rows(a=now))
     assert len(each) <= 1
     return each[0] if each else None

@@ -22,7 +22,7 @@ HARD_SHOWN = ["a b", r"a\x0ab", r"\xff\xfe", "x" * 200, r"$\\frac{$", r"a\x1b[2J
 
 
 def expected_rows() -> list[str]:
-    """What the report of the examples says, in the words of pdsuite."""
+    """The rows in the expected report of the examples, in the words of pdsuite."""
     rows = []
     for line in (EXAMPLES / "expected.txt").read_text().splitlines()[:-1]:
         name, verdict, number, *kind = line.split()

@@ -10,7 +10,7 @@ from pdsuite.signals import Stop
 
 
 def found(top: Path, *paths: str, only: tuple[str, ...] = ()) -> list[tuple[str, str]]:
-    """What is found, with its fault, by paths from a folder."""
+    """The scripts that are found by paths from a folder: the path of each, and its fault."""
     with pytest.MonkeyPatch.context() as patch, Stop() as stop:
         patch.chdir(top)
         return [(it.path, it.fault) for it in find_scripts(map(Path, paths), only, stop)]

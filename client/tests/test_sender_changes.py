@@ -105,7 +105,7 @@ def test_another_file_at_the_path_of_a_program_that_ends_is_not_started(tree: Tr
         watching.await_out(f"{ANOTHER}b.pkt:1: fail seq\n")
 
 
-# What is done in a tree whose programs are proved, while its scripts are watched.
+# Commands of the shell that change a tree whose programs are proved, while its scripts are watched.
 LEAVES = {
     "a file goes": "rm crates/pdregress/src/rule.rt",
     "a file comes": ": >crates/pdregress/src/more.rt",
@@ -296,7 +296,7 @@ def first(reported: Json) -> str:
 
 
 def lens(client: LspClient, uri: str) -> str:
-    """What stands above a script."""
+    """The title of the first lens above a script."""
     title: str = client.request("textDocument/codeLens", {"textDocument": {"uri": uri}})[0]["command"]["title"]
     return title
 

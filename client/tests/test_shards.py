@@ -83,7 +83,7 @@ def test_all_else_is_none(words: str) -> None:
 
 
 def shards_of(folder: Path, *paths: str, count: int) -> list[list[str]]:
-    """What each shard has, from a folder."""
+    """The scripts of each shard, by paths from a folder."""
     with pytest.MonkeyPatch.context() as patch, Stop() as stop:
         patch.chdir(folder)
         found = find_scripts(map(Path, paths), (), stop)

@@ -1,4 +1,4 @@
-"""What a terminal shows while scripts are watched: what moved in a line, a few of many, and lines that fit."""
+"""Terminal reports on watched scripts: a line for a folder that moved, a few rows of many, and lines that fit."""
 
 import fcntl
 import os
@@ -243,7 +243,7 @@ class OnTerminal:
         return before.split("\n")
 
     def _shown(self) -> str:
-        """What is shown, without what moves the cursor; where the last line is taken away, another begins."""
+        """The text since the last wait, without moves of the cursor; where the last line is erased, another begins."""
         text = self._octets.decode(errors="ignore").replace("\x1b[2K", "\n").replace("\r", "")
         return re.sub(r"\x1b\[[0-9;?]*[A-Za-z]", "", text)[self._taken :]
 

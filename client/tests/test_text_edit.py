@@ -70,7 +70,7 @@ def test_what_keys_take_is_what_the_page_on_settings_says() -> None:
 
 
 def _range(unit: str, words: str) -> str:
-    """What a row of the page says, in the words of the client."""
+    """The accepted values in a row of the page, in the words of the client."""
     if unit:
         return f"{words} {unit}"
     return " or ".join(it if it in ("true", "false") else f'"{it}"' for it in re.findall("`([a-z0-9_]+)`", words))

@@ -1,4 +1,4 @@
-"""What `pdsuite watch` prints below the rows that don't pass."""
+"""The blocks that `pdsuite watch` prints below the rows that don't pass."""
 
 import os
 import signal

@@ -64,7 +64,7 @@ def refuse_proof(tree: Tree) -> None:
 
 
 def noted(tree: Tree, name: str) -> list[str]:
-    """What builds have noted."""
+    """The lines that builds have noted in the file of this name."""
     file = tree.notes / name
     return file.read_text().splitlines() if file.exists() else []
 

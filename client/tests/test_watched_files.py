@@ -1,4 +1,4 @@
-"""What is taken of what is seen: neither what went a moment ago nor what is being written."""
+"""Updates of watched files take neither that a file went a moment ago nor a text that is being written."""
 
 import errno
 import os

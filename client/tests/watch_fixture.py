@@ -45,7 +45,7 @@ class Paper:
 
 
 def refused(claims: Iterable[Claim]) -> list[str]:
-    """What a program says of settings, as far as these tests have any."""
+    """The refusal lines of a program that refuses the value 7 for any setting."""
     return [it.refusal_line("BadValue") for it in claims if set_command_words(it.key, it.value)[1] == "7"]
 
 

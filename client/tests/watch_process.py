@@ -99,7 +99,7 @@ class Watching:
         return {path: row for path, row in report.rows.items() if self._is_every or ": pass " not in row}
 
     def ends(self, number: signal.Signals) -> Called:
-        """What it came to, once it was sent a signal."""
+        """Sends it a signal, and waits for its end; its status and outputs."""
         self._process.send_signal(number)
         status = self._process.wait(HANGS)
         for reader in self._readers:

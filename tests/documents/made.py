@@ -35,7 +35,7 @@ def page_or_file(top: Path, pages: dict[str, Page], name: str) -> Page | None:
 
 
 def run_tool(page: Page, made: Made) -> str:
-    """What the tool prints."""
+    """The output of the tool that makes the part."""
     tool = str(page.top / made.command[0])
     done = subprocess.run([tool, *made.command[1:]], cwd=page.top, capture_output=True, check=True, encoding="utf-8")
     return done.stdout

@@ -33,7 +33,7 @@ Test = tuple[str, str | None]
 
 
 def join_or_none(lines: Iterator[str]) -> str | None:
-    """What is wrong in one text, if anything is."""
+    """The lines of faults as one text, or None where there are none."""
     return "\n".join(lines) or None
 
 

@@ -56,7 +56,7 @@ class Page:
         return frozenset(found)
 
     def links(self) -> Iterator[tuple[int, str]]:
-        """What it links to, each with its line."""
+        """The targets of its links, each with the number of its line."""
         for number, line in enumerate(without_code(self.text).split("\n"), 1):
             for target in LINK.findall(line):
                 yield number, target
@@ -78,7 +78,7 @@ def read_pages(top: Path, files: list[Path]) -> list[Page]:
 
 
 def fault_of_link(pages: dict[str, Page], page: Page, target: str) -> str | None:
-    """What is wrong with a link of a page, if anything is."""
+    """The fault of a link of a page, if it has one."""
     if target.startswith(ELSEWHERE):
         return None
     name, _, anchor = unquote(target).partition("#")

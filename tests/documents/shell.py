@@ -27,7 +27,7 @@ class Shell:
         self.folder = folder
 
     def run(self, command: str, seconds: float) -> str:
-        """What a command prints on both outputs, in the order in which it does."""
+        """Runs a command, and gives what it prints on both outputs, in the order in which it does."""
         words = shlex.split(command, comments=True) if "\n" not in command else []
         if len(words) == 2 and words[0] == "cd":
             self.folder = (self.folder / words[1]).resolve(strict=True)

@@ -10,7 +10,7 @@ HERE = re.compile(r"<<-?'?(\w+)'?")
 # In the place of lines that are left out, and after a blank of the rest of a line.
 LEFT_OUT = "..."
 SECONDS = re.compile(r"\bin\\? \d+\\?\.\d+\\? s\b")
-# What a program says first where it runs without its proofs.
+# The beginning of the first line of a program that runs without its proofs.
 UNPROVED = re.compile(r"^pd[a-z]+: unproved: ")
 
 # Kinds of blocks: what the gate runs, what takes the prover or runs without proofs, what `watch` prints, and what it
@@ -69,7 +69,7 @@ def _lines_of_command(lines: list[str]) -> list[str]:
 
 
 def pattern_of_output(wanted: tuple[str, ...]) -> re.Pattern[str]:
-    """What fits what is wanted."""
+    """The pattern of an output with the wanted lines."""
     return re.compile("".join(map(_pattern_of_line, wanted)))
 
 

@@ -1,4 +1,4 @@
-"""What the pages leave to the sources: the first line of each file, which says what the file is for."""
+"""The first line of each source, which says what the file is for: pages leave that to the sources."""
 
 from collections.abc import Iterator
 from pathlib import Path

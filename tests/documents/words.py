@@ -6,7 +6,7 @@ from collections.abc import Iterator
 from documents.pages import Page, without_code
 from documents.sentences import sentences_of_page
 
-# What tells how something was once: git has it. And "behind" of time: that is "after".
+# Words on how something was once: git has that. And "behind" of time: that is "after".
 LOG = re.compile(r"\b(at commit|measured again|formerly|until now|behind)\b", re.IGNORECASE)
 COMMIT = re.compile(r"(?<!logic )\b(?=[0-9a-f]*[0-9])(?=[0-9a-f]*[a-f])[0-9a-f]{7,40}\b")
 

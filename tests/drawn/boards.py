@@ -14,7 +14,7 @@ from model.window import Ack, Known, Window
 # How many segments recovery and limited transmit send at most after an ACK.
 SEGMENTS = 20
 
-# What is counted, by the words of rows: what ACKs lead to, the rules of NextSeg, and the timer.
+# The names of counts by the words of rows: what ACKs lead to, the rules of NextSeg and PRR, restarts, and the timer.
 NAMES = {
     "ordinary": "ordinary sending",
     "nothing": "nothing",
@@ -228,7 +228,7 @@ class BoardCalls:
             pipe += size([segment])
 
     def answers(self) -> str:
-        """What is answered after a call, also of a random octet and of octets sent again up to a random one."""
+        """The row of answers after a call, also on a random octet and on octets sent again up to a random one."""
         board, window = self.board, self.window
         octet, high_rxt = self.between(board.una, board.top), self.between(board.una, board.top)
         numbers = written_answers(board.una, board.next, board.top, board.end, window.cwnd, window.is_recovering)

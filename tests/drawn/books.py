@@ -47,7 +47,7 @@ def sum_of(answer: str) -> int:
 
 @cache
 def sum_of_piece(low: int, piece: str) -> tuple[int, int]:
-    """What a piece makes of a sum: a factor for the sum without its lowest eight bits, and what comes of these, `low`.
+    """The effect of a piece on a sum: a factor for all but its lowest eight bits, and what these, `low`, become.
 
     Each octet is mixed into the lowest eight bits alone, and then the whole sum is multiplied.
     """

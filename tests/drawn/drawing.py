@@ -1,4 +1,4 @@
-"""What random rows are drawn by, and how many are."""
+"""The dice by which random rows are drawn, and the amount that is drawn."""
 
 from collections.abc import Iterator
 from dataclasses import dataclass

@@ -1,4 +1,4 @@
-"""What the programs answer to the rows that have answers, and which of these differ."""
+"""The answers of the programs to the rows that have answers, and which of these differ."""
 
 from collections.abc import Iterator, Sequence
 from dataclasses import dataclass

@@ -29,7 +29,7 @@ class ProgramCall:
 
 @dataclass(frozen=True)
 class ProgramOutput:
-    """What a program writes, its status, and how many octets of its input it read, if that was counted."""
+    """The outputs of a program, its status, and how many octets of its input it read, if that was counted."""
 
     output: bytes
     errors: bytes

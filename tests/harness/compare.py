@@ -69,7 +69,7 @@ class RowCase(Generic[T]):
 
 @dataclass(frozen=True)
 class RowResult:
-    """What is wrong about a case, if anything is, and whether only a built program shows that."""
+    """The fault of a case, if it has one, and whether a part of it is unanswered, since it needs a built program."""
 
     fault: str = ""
     is_unanswered: bool = False

@@ -56,7 +56,7 @@ def event_text(it: Expected | None) -> str:
 
 
 def fault_of_recording(it: Transfer, output: ProgramOutput) -> str:
-    """What is wrong about the recording of a transfer."""
+    """The fault of the recording of a transfer; empty where it has none."""
     if output.status != 0:
         why = f"status {output.status}: {output.errors.decode(errors='backslashreplace')}"
     else:

@@ -24,10 +24,10 @@ SETUP = b"""0 socket(..., SOCK_STREAM, IPPROTO_TCP) = 3
 """
 
 
-# What may stand before the first event of a random script: mostly nothing.
+# The texts that may stand before the first event of a random script: half of them are empty.
 STARTS = [""] * 4 + ["\n", " \n\n", "/*/ = 3 */ ", "// (\n"]
 
-# What may stand after a random event: mostly the end of its line.
+# The texts that may stand after a random event: most often the end of its line.
 ENDS = ["\n"] * 8 + [
     " ",
     " // a\n",
@@ -41,10 +41,10 @@ ENDS = ["\n"] * 8 + [
     "\n  //= at 0.000000 CLOSED connection:none\n",
 ]
 
-# What may stand for the octets that are written: mostly dots.
+# The texts that may stand for the octets that are written: half of them are dots.
 TEXTS = ["..."] * 5 + ['"a)=b"', '"= 1 (" /* "i" */', "%{ ) = 1 // }% // j\n", "--k=(/*= ", "{k = [1]}"]
 
-# What may stand after a result: mostly nothing.
+# The texts that may stand after a result: half of them are empty.
 NOTES = [""] * 5 + [" (l)", " (one /* two */ three)", "  (/*/ m */ (n)) /* o */", ' (")" // p\n)', " (q\n\n)"]
 
 

@@ -126,7 +126,7 @@ def count_comments_and_blanks(text: bytes) -> Counter[bytes]:
 
 
 def comment_faults(done: DoneRecording) -> Iterator[str]:
-    """What is wrong about the comments and blank lines of a recording: each stays, once."""
+    """The faults of a recording in comments and blank lines: each of the script has to stay, once."""
     script = count_comments_and_blanks(without_trace_lines(done.script.text))
     kept = count_comments_and_blanks(done.text)
     if script != kept:
@@ -139,7 +139,7 @@ def allow_too_large(row: str) -> str:
 
 
 def refusal_faults(refused: RefusedRecording, row: str) -> Iterator[str]:
-    """What is wrong about a refusal.
+    """The faults of a refusal.
 
     It has to be the row, unless that is about what the script expects, or the recording is too large, whose packets
     leave before they fill the outbox.
@@ -155,13 +155,13 @@ def refusal_faults(refused: RefusedRecording, row: str) -> Iterator[str]:
 
 
 def row_faults(done: DoneRecording, row: str) -> Iterator[str]:
-    """What is wrong about the row of a recording: it has to pass, with all of its events."""
+    """The fault of the row of a recording, if it has one: it has to pass, with all of its events."""
     if row != f"pass {done.event_count}":
         yield f"{row}, with {done.event_count} events"
 
 
 def rerecord_faults(done: DoneRecording, again: ProgramOutput | None, traced: ProgramOutput | None) -> Iterator[str]:
-    """What is wrong about recording a recording."""
+    """The faults of a recording and its trace, each of which is recorded again."""
     if again != ProgramOutput(done.text, b"", 0):
         yield "another recording of the recording"
     if traced != ProgramOutput(done.trace, b"", 0):

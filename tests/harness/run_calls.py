@@ -14,7 +14,7 @@ from harness.batch_calls import fits_the_batch, outputs_in, encode_starts
 from harness.calls import NO_STATUS, Outputs, ProgramCall, ProgramOutput
 from harness.tables import TOP
 
-# What a call may take, in seconds by the clock: long, so that a busy machine fails none.
+# The time that a call may take, in seconds by the clock: long, so that a busy machine fails none.
 SECONDS = 300
 # The same without proofs, where a call is some ten times as slow, and one process may make all of them.
 UNPROVED_SECONDS = 3_600

@@ -117,7 +117,7 @@ def parse_lines(rest: str, is_many: bool) -> bytes:
 
 
 def split_at_mark(text: str, mark: str, why: str) -> tuple[str, str]:
-    """What stands before the first mark and after it."""
+    """The text before the first mark, and the text after it."""
     front, found, back = text.partition(mark)
     if not found:
         raise RowError(why)
@@ -154,7 +154,7 @@ def parse_tables(file: Path) -> list[Table]:
 
 
 def read_opening(table: Table) -> Opening:
-    """What an opening has: the lines after `<` and `>`, and octets without a newline after `~`."""
+    """Reads an opening: the lines after `<` and `>`, and octets without a newline after `~`."""
     given, output = table.before.given, table.before.output
     for row in table.rows:
         mark, _, rest = row.text.partition(" ")

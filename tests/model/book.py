@@ -43,7 +43,7 @@ SETTINGS = {
 }
 DEFAULTS = {key: values[0] for key, values in SETTINGS.items()}
 
-# What a SYN that is answered consults, and the ACK that establishes the connection.
+# The settings that an answered SYN consults, and those of the ACK that establishes the connection.
 AT_SYN = {"mss", "sack", "wscale", "rcv_wnd", "min_rto_us", "max_rto_us"}
 AT_ACK = {
     "initial_ssthresh",
@@ -68,7 +68,7 @@ Settings = dict[str, str]
 
 @dataclass
 class Connection:
-    """What the lines of a run have made so far, and which settings they consulted."""
+    """The connection that the lines of a run have made so far, and which settings they consulted."""
 
     settings: Settings
     made: int = 0  # how many of a socket, a bind, a listen and an answered SYN
@@ -186,7 +186,7 @@ def kept(text: Text, lines: int) -> int:
 
 @dataclass(frozen=True)
 class Job:
-    """What a job runs."""
+    """A job: its number, the name of its script, and the text and the settings of its run."""
 
     number: int
     script: str
@@ -278,7 +278,7 @@ class Model:
         return texts
 
     def settings(self) -> Settings:
-        """What each setting is set to."""
+        """The value of each setting: the one that was set last, or the default."""
         return DEFAULTS | {act.script: act.text for act in self.acts if act.kind == "Set"}
 
     def last_change(self, script: str) -> int:

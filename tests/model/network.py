@@ -22,7 +22,7 @@ class Ack:
 
 @dataclass(frozen=True, slots=True)
 class Path:
-    """What the network does: a round trip in microseconds, and what is lost or late, once in so many times."""
+    """A path: its round trip in microseconds, and how probable it is that a segment or an ACK is lost, or late."""
 
     round_trip: int
     loss: float

@@ -1,4 +1,4 @@
-"""What the handshake and the settings say of a sender."""
+"""The rules that a sender has from the handshake and the settings."""
 
 from dataclasses import dataclass
 

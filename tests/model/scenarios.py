@@ -63,7 +63,7 @@ class Write:
 
 @dataclass(order=True, slots=True)
 class Due:
-    """What is due at a moment: a write, a segment that reaches the peer, an ACK of it, or the end of its wait."""
+    """A step that is due at a moment: a write, a segment that reaches the peer, its ACK, or the end of its wait."""
 
     at: int
     place: int
@@ -152,7 +152,7 @@ class _Game:
         return min(moments, default=HORIZON)
 
     def _step(self, now: int) -> None:
-        """What is due at a moment: the expiries up to it come first."""
+        """Lets the timer expire up to a moment or, where it doesn't, does the step that is due then."""
         if self._settle(now):
             return
         what = heapq.heappop(self._due).what

@@ -18,12 +18,12 @@ def joined(spans: Iterable[Span]) -> Spans:
 
 
 def within(spans: Iterable[Span], first: int, last: int) -> Spans:
-    """What of them lies from one number up to another."""
+    """The parts of spans that lie from one number up to another."""
     return [(max(start, first), min(end, last)) for start, end in spans if max(start, first) < min(end, last)]
 
 
 def gaps(spans: Spans, first: int, last: int) -> Iterator[Span]:
-    """What lies from one number up to another and in none of these, which are joined."""
+    """The gaps that joined spans leave from one number up to another."""
     place = first
     for start, end in within(spans, first, last):
         if place < start:

@@ -9,7 +9,7 @@ from model.spans import Span, Spans, size, within
 
 @dataclass(frozen=True, slots=True)
 class Known:
-    """What was known before an ACK: `una`, the octets that were SACKed or weren't, and those that were lost."""
+    """A board before an ACK: `una`, how many octets were SACKed and how many weren't, and those that were lost."""
 
     una: int
     sacked: int
@@ -23,7 +23,7 @@ class Known:
 
 @dataclass(frozen=True, slots=True)
 class Ack:
-    """What an ACK tells; the windows are in octets."""
+    """An ACK and its effect on the board; `rwnd` and all counts are in octets."""
 
     acked: int  # how many octets are newly acknowledged
     delivered: int  # DeliveredData (RFC 9937, section 6)
@@ -108,7 +108,7 @@ class Window:
     # ---- what an ACK leads to
 
     def take(self, board: Board, ack: Ack) -> tuple[str, Span | None]:
-        """What an ACK leads to, which the board has taken, and the segment of that.
+        """Takes an ACK after the board; gives the kind of sending that follows, and its segment where it has one.
 
         `ordinary` is ordinary sending, `nothing` none. `limited` is limited transmit, `segment` that without SACK;
         `again` is fast retransmit, `entry` the first segment of a recovery with SACK, and `step-c` its step C.
@@ -138,7 +138,7 @@ class Window:
         return "step-c"
 
     def _duplicate(self, board: Board, ack: Ack) -> str:
-        """What a duplicate with SACK leads to (RFC 6675, section 5, steps 1 to 4)."""
+        """Takes a duplicate with SACK; gives the kind of sending that follows (RFC 6675, section 5, steps 1 to 4)."""
         self.duplicates += 1
         if board.una < self.recovery_point:
             return "ordinary"

@@ -1,4 +1,4 @@
-# What the tests of the shell programs share. It is read by the others.
+# The functions that the tests of the shell programs share. tests/shell.sh reads this file before the others.
 # Each test gives its command after its name and the wanted output: what the command writes, after `! ` what it writes on
 # standard error, and its status.
 expect() { # NAME WANTED COMMAND..

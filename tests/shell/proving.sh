@@ -56,7 +56,7 @@ refused_words() { # the last line of the message, and the status
     return "$code"
 }
 
-# What a log says, and the lines of it that are errors.
+# The log of a crate that isn't proved: errors, and other lines among them.
 log_with_errors() {
     cat <<'LOG'
 rt: chose --jobs 2 for right

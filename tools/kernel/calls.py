@@ -22,7 +22,7 @@ OPTIONS = {
 
 @dataclass(frozen=True)
 class KernelAnswer:
-    """What a call gave: a number, and with -1 the name of the error."""
+    """The kernel's answer to a call: a number, and with -1 the name of the error."""
 
     result: int
     error: str = ""

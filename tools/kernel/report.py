@@ -1,4 +1,4 @@
-"""What many runs of one script come to, and how it is printed."""
+"""The outcomes of many runs of each script, and how they are printed."""
 
 from __future__ import annotations
 

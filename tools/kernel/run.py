@@ -20,7 +20,7 @@ LATE = 0.005
 
 @dataclass(frozen=True)
 class RunOutcome:
-    """What a run came to: where it differed, what was seen, and how late the tool itself was at worst."""
+    """The outcome of a run: where it differed, what was seen, and how late the tool itself was at worst."""
 
     differences: tuple[Difference, ...] = ()
     seen: tuple[str, ...] = ()

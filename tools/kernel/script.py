@@ -1,4 +1,4 @@
-"""What a script has done and expects: its events, as far as they can be run here."""
+"""The events of a script, its calls and packets, as far as they can be run here."""
 
 from __future__ import annotations
 

@@ -41,7 +41,7 @@ _FAULT = 2
 
 @dataclass(frozen=True)
 class CompareOptions:
-    """What a call requests: which scripts, which senders, and how it is reported."""
+    """The options of a call: which scripts, which senders, and how the comparison is reported."""
 
     paths: Sequence[Path]
     only: Sequence[str]
@@ -149,7 +149,7 @@ def _comparison_page_in_folder(folder: Path) -> "ComparisonPage":
 def _find_affected_rows_and_paragraphs(
     row_starts: RowStarts, before: Sender, results: Sequence[SenderResults], room: Path
 ) -> Affected:
-    """What the change affects in the tree of the sender after it."""
+    """The rows and paragraphs that the change affects in the tree of the sender after it."""
     sources = before.find_or_check_out_sources(room / "sources")
     return find_affected_rows_and_paragraphs(row_starts, [it.outputs for it in results], sources, room)
 

@@ -40,7 +40,7 @@ _FAULT = 2
 
 @dataclass(frozen=True)
 class ExpectOptions:
-    """What a call requests: which scripts, how they are run, and why those are known that don't pass."""
+    """The options of a call: which scripts, how they are run, and why those that don't pass are known."""
 
     paths: Sequence[Path]
     only: Sequence[str]
@@ -52,7 +52,7 @@ class ExpectOptions:
 
 @dataclass(frozen=True)
 class ExpectationChange:
-    """What is expected of a script from now on, by its folder and name, and the line that says so."""
+    """The row expected of a script from now on, if any, by its folder and name, and the line that says so."""
 
     folder: str
     name: str
@@ -89,7 +89,7 @@ def run_scripts_and_update_expectations(options: ExpectOptions, screen: Screen) 
 
 
 def _run_scripts(scripts: Sequence[SuiteScript], start: Start, screen: Screen) -> list[ScriptOutcome]:
-    """What came of the scripts, in their order."""
+    """Runs the scripts, and answers their outcomes in the same order."""
     outcomes: dict[int, ScriptOutcome] = {}
     for run in batch_scripts_by_equal_settings(scripts):
         for step in run_batch(run, start):
@@ -155,7 +155,7 @@ def _write_changed_expectations_then_report(
 def expectation_changes(
     settled: Iterable[tuple[ScriptFile, ScriptOutcome]], reason: str
 ) -> Iterator[ExpectationChange]:
-    """What changes: a row is expected that isn't yet, or none any more of a script that passes."""
+    """The changes to the files: a row is expected that isn't yet, or none any more of a script that passes."""
     for found, outcome in settled:
         path, row = printable_path(outcome.path), outcome.row.whole_text_without_name
         if outcome.row.verdict is Verdict.PASS:

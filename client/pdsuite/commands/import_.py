@@ -58,7 +58,7 @@ def import_scripts(source: Path, target: Path, keep_packets: bool, is_json: bool
 
 
 def _listing_text(scripts: Sequence[Listed]) -> str:
-    """What people see."""
+    """The listing for people: the result of each script, and then the summary."""
     lines = [line for it in scripts for line in import_result_lines_of_script(it)]
     return "".join(f"{line}\n" for line in [*lines, *summary_lines(scripts)])
 
@@ -72,7 +72,7 @@ def _read_and_convert_each_script(
 
 
 def _read_and_convert_script(found: ScriptFile, suite: SuiteConfig, keep_packets: bool) -> Imported | NotImported | str:
-    """What comes of a script; or why it can't be read."""
+    """Reads and converts a script, and answers the result, or why the script can't be read."""
     try:
         octets = read_regular_file_up_to_limit(found.path, LONGEST_FILE + 1)
     except UnfitTextError as unfit:

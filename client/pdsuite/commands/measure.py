@@ -38,7 +38,7 @@ _AGAIN = "measure again"
 
 @dataclass(frozen=True)
 class MeasureOptions:
-    """What a call requests: which senders, over which paths, how often, and how it is reported."""
+    """The options of a call: which senders, over which paths, how often, and how the result is reported."""
 
     settings: str
     base_settings: str

@@ -52,7 +52,7 @@ RecordMode = Sequence[str] | None
 
 @dataclass(frozen=True)
 class RecordOptions:
-    """What a call requests: which scripts, and whether they are written."""
+    """The options of a call: which scripts, how they are recorded, and whether they are written."""
 
     paths: Sequence[Path]
     only: Sequence[str]
@@ -76,7 +76,7 @@ class RecordOptions:
 
 @dataclass(frozen=True, slots=True)
 class RecordedFile:
-    """What came of a script: what its file holds and would hold, or why it isn't recorded."""
+    """A script, with what its file holds and would hold, or why it isn't recorded."""
 
     script: SuiteScript
     diff: FileDiff
@@ -193,7 +193,7 @@ def _record_by_modes(
     screen: Screen,
     stop: Stop,
 ) -> list[RecordedFile]:
-    """What comes of each script, in their order; those that stay aren't recorded."""
+    """Records the scripts by their modes, and answers them in their order; those that stay aren't recorded."""
     groups: dict[tuple[Settings, Sequence[str]], list[tuple[SuiteScript, bytes]]] = {}
     each: dict[int, RecordedFile] = {}
     for script in scripts:

@@ -181,7 +181,7 @@ def _refuse_overwriting_scripts_or_output(files: Iterable[tuple[str, Path]], scr
 
 
 def _device_and_inode_if_present(path: str | Path | int) -> tuple[int, int] | None:
-    """What distinguishes a file that is there, or is open, from all others; None where none is."""
+    """The device and inode of a file that is there, or is open; no other file has both. None where there is no file."""
     try:
         found = os.stat(path)
     except (OSError, ValueError):

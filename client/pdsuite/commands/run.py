@@ -67,7 +67,7 @@ _MANY = 2_000
 
 @dataclass(frozen=True)
 class RunOptions:
-    """What a call requests: which scripts, and how they are run."""
+    """The options of a call: which scripts, and how they are run."""
 
     paths: Sequence[Path]
     only: Sequence[str]
@@ -140,7 +140,7 @@ def run_scripts(options: RunOptions, screen: Screen) -> int:
             steady = SenderGuard(look)
             program, page = _proved_program_or_none_if_allowed(options, look), None
             if is_unproved := program is None:
-                # What can be refused is refused before anything is built.
+                # Refuse all that can be refused before anything is built.
                 if lines := unused_table_warning_lines_under_paths(suite, options.paths):
                     return _print_errors_always_returning_fault(lines)
                 page = _page_updates_if_requested(options, screen, is_unproved)

@@ -115,8 +115,8 @@ def search_difference(
 ) -> int:
     """Searches for what tells two senders apart, and answers the exit status: 1 where something does.
 
-    What is common sets settings of both sides, which no input sets then. The trees are the senders' sources, as far as
-    they are known.
+    The layer `common` gives both sides settings, which no input sets then. The trees are the senders' sources, as far
+    as they are known.
     """
     if options.save is not None:
         refuse_save_path_misnamed_or_configured(options.save)

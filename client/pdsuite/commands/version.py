@@ -1,4 +1,4 @@
-"""What `pdsuite --version` says."""
+"""The lines that `pdsuite --version` prints."""
 
 from collections.abc import Iterator
 

@@ -36,7 +36,7 @@ _WIDTH = 80
 
 @dataclass(frozen=True)
 class WatchOptions:
-    """What a call requests: which scripts, how they are run and shown, and against which sender."""
+    """The options of a call: which scripts, how they are run and shown, and against which sender."""
 
     paths: Sequence[Path]
     only: Sequence[str]

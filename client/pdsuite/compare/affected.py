@@ -1,4 +1,4 @@
-"""What a changed sender affects in its tree: rows of tests/cases that say otherwise now, and paragraphs of pages."""
+"""The effects of a changed sender on its tree: rows of tests/cases that say otherwise now, and paragraphs of pages."""
 
 import json
 import os
@@ -57,7 +57,10 @@ class Paragraph:
 
 @dataclass(frozen=True)
 class Affected:
-    """What is affected, and how many rows have no answer. Paragraphs are unknown where the sources before are."""
+    """The affected rows and paragraphs, and how many rows have no answer.
+
+    Paragraphs are unknown where the sources of the sender before are.
+    """
 
     rows: tuple[AffectedRow, ...]
     unheard: int
@@ -101,7 +104,7 @@ def _parse_program_names_and_cases(output: bytes) -> Iterator[tuple[str, Case]]:
 
 
 def _run_affected_tool(tree: Path, *words: str | Path) -> bytes:
-    """What a tree's tool says."""
+    """Runs the tool of a tree, and answers its output."""
     done = subprocess.run(
         [sys.executable, "-B", tree / _TOOL, *words],
         stdin=subprocess.DEVNULL,
@@ -115,7 +118,7 @@ def _run_affected_tool(tree: Path, *words: str | Path) -> bytes:
 
 
 def names_changed_between_trees(before: Path | None, after: Path | None) -> list[dict[str, Any]]:
-    """What changed between the sources of two senders, with the names in it; nothing where one isn't known."""
+    """The functions and constants that changed between two trees, with the names in them; none if one isn't known."""
     if before is None or after is None or not (TOP / _TOOL).is_file():
         return []
     changed: list[dict[str, Any]] = json.loads(_run_affected_tool(TOP, "changed", "--before", before, "--after", after))
@@ -123,7 +126,7 @@ def names_changed_between_trees(before: Path | None, after: Path | None) -> list
 
 
 def run_starts_on_programs(programs: dict[str, Path], row_starts: RowStarts, stop: Stop) -> list[ProcessOutput]:
-    """What proved programs say, several at a time."""
+    """Runs the starts on these programs, several at a time, and answers their outputs."""
 
     def run_start_or_empty_output(each: tuple[str, Case]) -> ProcessOutput:
         name, case = each
@@ -146,7 +149,7 @@ def tree_outputs_after_isolated_reruns(
     stop: Stop,
     note: Callable[[str], None],
 ) -> list[ProcessOutput]:
-    """What a tree's programs say, which were built for it. Those that another one may have ended are started alone."""
+    """The outputs of a tree's built programs. A start that another one may have ended is run again, alone."""
     answered = [list(it) for it in answers]
     lost = [[place for place, it in enumerate(each) if it.is_shared] for each in answered]
     if count := sum(map(len, lost)):
@@ -166,7 +169,7 @@ def tree_outputs_after_isolated_reruns(
 def find_affected_rows_and_paragraphs(
     row_starts: RowStarts, outputs: Sequence[Sequence[ProcessOutput]], before: Path | None, room: Path
 ) -> Affected:
-    """What is affected, by the outputs of both senders, and by the sources of the one before, if these are known."""
+    """The affected rows, by the outputs of both senders, and paragraphs, by the sources of the one before, if known."""
     file = room / "answers"
     with file.open("wb") as answers:
         for each in zip(*outputs):

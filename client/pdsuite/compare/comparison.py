@@ -1,4 +1,4 @@
-"""What two senders do with the same scripts: which turned, and which are played otherwise."""
+"""Compares what two senders do with the same scripts: which turned, and which are played otherwise."""
 
 import os
 from collections import Counter
@@ -26,7 +26,7 @@ class ComparisonKind(StrEnum):
 
 @dataclass(frozen=True)
 class SenderResults:
-    """What a sender did: by the places of scripts their outcomes, texts, recordings, and explanations by keys.
+    """The results of a sender: by the places of scripts their outcomes, texts, recordings, and explanations by keys.
 
     Last come its outputs on rows, in their order.
     """

@@ -24,7 +24,7 @@ class Group:
 
     @property
     def title(self) -> str:
-        """What they have in common."""
+        """The field and the event that the scripts have in common."""
         return f"{self.field}, at {self.event}" if self.event else self.field
 
 
@@ -81,7 +81,7 @@ def _is_call(it: PlayedEvent) -> bool:
 
 
 def _event_kind(it: PlayedEvent | None, previous: PlayedEvent | None) -> str:
-    """What kind of event it is, after the one before it."""
+    """The kind of an event, by the event and the one before it."""
     if it is None:
         return ""
     words = it.line.split(" ")

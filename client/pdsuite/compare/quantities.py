@@ -14,7 +14,7 @@ _TIMER = " sent_by:timer"
 
 
 class Quantity(StrEnum):
-    """What is counted, by the word that sorts by it."""
+    """A quantity, by the word that sorts scripts by it."""
 
     SEGMENTS = "segments"
     AGAIN = "again"

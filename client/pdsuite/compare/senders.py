@@ -22,7 +22,7 @@ from pdsuite.programs.lookup import ProgramLookup, lookup_by_paths, proved_progr
 
 _KEPT = TOP / "tools/last_proved.py"
 _COMMIT = "commit"
-# What of a commit a program is built from, and by what its rows are run.
+# The parts of a commit from which programs are built, and by which its rows are run.
 _PARTS = ("crates", "crates.txt", "HANDLES", "docs", "examples", "tests", "tools")
 _DIRTY = "-dirty"
 
@@ -43,7 +43,7 @@ class Sender:
 
     @property
     def is_proved(self) -> bool:
-        """Whether its programs are there and proved. Who names a folder of programs says that they are."""
+        """Whether its programs are there and proved. A folder of programs that a call names counts as proved."""
         return self.has_programs and not self.is_build
 
     @property
@@ -184,7 +184,7 @@ def _unpack_archive(archive: Path, place: Path) -> None:
 
 
 def _git_output_or_none_on_failure(*words: str) -> bytes | None:
-    """What git prints in this tree, if it does what is requested."""
+    """The output of git in this tree, if it succeeds."""
     try:
         done = subprocess.run(["git", "-C", TOP, *words], stdin=subprocess.DEVNULL, capture_output=True)
     except OSError as error:

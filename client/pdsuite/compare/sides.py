@@ -30,7 +30,7 @@ class Side:
 
     @property
     def own_settings(self) -> Settings:
-        """What its own option sets."""
+        """The settings of its own option."""
         return sorted_settings(self.option.keys)
 
     def common_and_own_setting_claims(self, common: Iterable[Claim]) -> list[Claim]:
@@ -69,7 +69,7 @@ class Side:
     def with_refused_keys_dropped_or_renamed(self, refused: Sequence[Refusal], may_retry: bool = False) -> "Side":
         """The side without keys that its sender is found to lack; a fault where it refuses more than such a key.
 
-        Who queries again gets a key by its old name, if it has one, before it counts as lacking.
+        With `may_retry`, a key that has an old name gets that name before it counts as lacking.
         """
         if wrong := [
             it for it in refused if it.reason != UNKNOWN_KEY or it.claim.place == self.option.file_or_option_name

@@ -38,7 +38,7 @@ _OF_SCRIPTS = 2
 
 @dataclass(frozen=True)
 class ComparisonTask:
-    """What both senders are to do, whether they record, and which rows they are run on.
+    """The task of both senders: which scripts they run, whether they record, and which rows they are run on.
 
     The claims are those of both sides.
     """
@@ -49,7 +49,7 @@ class ComparisonTask:
     row_starts: RowStarts | None = None
 
     def make_unproved_script_plan_for_side(self, side: Side) -> UnprovedPlan:
-        """What a sender is started on that has to be built."""
+        """The plan for a sender that has to be built: the claims and scripts that it is started on."""
         batches = batch_scripts_by_equal_settings(side.scripts_with_effective_settings(self.scripts))
         return load_scripts_and_make_plan(
             batches, side.common_and_own_setting_claims(self.claims), EXPLAIN_FAILURES, self.records
@@ -94,7 +94,7 @@ def _run_sides_with_programs_in_parallel(
 
 
 class _UnprovedSides:
-    """What comes of trees that `rt try` builds side by side, each with the keys that it lacks."""
+    """Sides whose trees `rt try` builds side by side, each with the keys that it lacks, and their results."""
 
     def __init__(self, sides: Sequence[Side], task: ComparisonTask, stop: Stop, note: Callable[[str], None]) -> None:
         self._task, self._stop, self._note = task, stop, note
@@ -126,7 +126,7 @@ class _UnprovedSides:
         return _merge_pieces_into_sender_results(results.settled, results.recordings, outputs)
 
     def _script_and_row_cases_of_tree(self, side: Side, plan: UnprovedPlan) -> list[ProgramCases]:
-        """What a tree's programs are started on: the scripts, and then the rows."""
+        """The starts of a tree's programs: on the scripts, and then on the rows."""
         row_starts, tree = self._task.row_starts, side.sender.known_tree_to_build
         return [
             *plan.cases_for_claims_batches_and_recordings(tree),

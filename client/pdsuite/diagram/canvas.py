@@ -14,7 +14,7 @@ from pdsuite.diagram.labels import Label, PlacedLabel
 from pdsuite.diagram.palette import LIGHT
 from pdsuite.diagram.timeline_parts import Stair
 
-# What a picture is of besides its strokes: the same octets for the same strokes, and no text that is more than a text.
+# The settings of matplotlib: the same strokes give the same octets, and each text is drawn as it is.
 SETTINGS = {
     "svg.hashsalt": "pdsuite",
     "svg.fonttype": "none",
@@ -133,7 +133,7 @@ class Canvas:
             self.legend.append((Line2D([], [], linestyle="none", **style), words))
 
     def draw_area_below_staircase(self, role: str, steps: Sequence[Stair], words: str) -> None:
-        """What is on the way, as an area below its staircase."""
+        """The octets on the way, as an area below their staircase."""
         for xs, ys, is_later in _gapless_pieces_of_staircase(steps, self.end):
             alpha = 0.3 * alpha_paler_after_failing_line(is_later)
             self.windows.fill_between(
@@ -268,7 +268,7 @@ def _gapless_pieces_of_staircase(steps: Sequence[Stair], end: float) -> Iterable
             xs.append(end if after is None else after.at)
             ys.append(step.value)
             yield xs, ys, step.is_later
-            # What goes on paler begins where this ends.
+            # A piece that goes on, paler, begins where this one ends.
             goes_on = after is not None and after.value is not None
             xs, ys = (xs[-1:], ys[-1:]) if goes_on else ([], [])
 

@@ -29,7 +29,7 @@ class PlacedLabel:
 
 
 def timeline_labels_in_time_order(timeline: Timeline) -> list[Label]:
-    """What has a name in a diagram, in the order of time."""
+    """The labels of a diagram's notes and its failing line, in the order of time."""
     labels = [Label(it.at, it.words, it.is_later) for it in timeline.notes]
     if timeline.failure is not None:
         labels.append(Label(timeline.failure.at, f"line {timeline.failure.line} fails", is_failure=True))

@@ -14,7 +14,7 @@ from pdsuite.diagram.timeline_parts import Timeline
 
 _DPI = 144
 _WORDS = "Time-sequence diagram: octets over time, and below it the windows over the same time"
-# What matplotlib writes before and around a picture.
+# The head, the metadata and the style that matplotlib writes with a picture.
 _HEAD = re.compile(r"^.*?(?=<svg )|<metadata>.*?</metadata>\s*|<defs>\s*<style.*?</style>\s*</defs>\s*", re.DOTALL)
 _SIZE = re.compile(r'^<svg [^>]*?viewBox="([^"]*)"[^>]*>')
 _FONT = re.compile(r"font: ([\d.]+)px [^;\"]*")

@@ -120,7 +120,7 @@ def _arrivals_with_octet_and_flag(moments: Sequence[_Moment]) -> Iterator[Arriva
 
 
 def _acknowledged_octet_or_una(packet: Packet, before: TracedEvent | None, after: TracedEvent) -> int:
-    """What a segment acknowledges, where that was sent and wasn't acknowledged before."""
+    """The number that a segment acknowledges, if it is from `una` to `top`; else `una`."""
     numbers = after if before is None or before.numeric_fact("una") is None else before
     una, top = numbers.numeric_fact("una") or 0, numbers.numeric_fact("top") or 0
     return packet.ack if packet.ack is not None and una <= packet.ack <= top else una
@@ -195,7 +195,7 @@ def _flight_size_without_pipe(event: TracedEvent) -> int | None:
     return event.numeric_fact("FlightSize") if "cwnd" in event.facts and "pipe" not in event.facts else None
 
 
-# ---- what has a name
+# ---- notes
 
 
 def _all_notes_in_time_order(moments: Sequence[_Moment]) -> tuple[Note, ...]:
@@ -209,7 +209,7 @@ def _all_notes_in_time_order(moments: Sequence[_Moment]) -> tuple[Note, ...]:
 
 
 def _notes_of_dropped_flags(moments: Sequence[_Moment]) -> Iterator[Note]:
-    """What arrives with a flag and isn't taken."""
+    """A note for each FIN or RST that arrives and isn't taken."""
     for it in _arrivals_with_octet_and_flag(moments):
         if it.is_dropped:
             yield Note(it.at, f"{it.flag.value} dropped", it.is_later)

@@ -1,6 +1,6 @@
-"""What a time-sequence diagram is made of, as values.
+"""The parts of a time-sequence diagram, as values.
 
-Moments are in microseconds after the start of the run, octets are sequence numbers as scripts have them.
+Moments are in microseconds after the start of the run; octets are sequence numbers as scripts have them.
 """
 
 from dataclasses import dataclass
@@ -8,7 +8,7 @@ from enum import Enum
 
 
 class SegmentKind(Enum):
-    """What a segment that leaves has."""
+    """The kind of a segment that leaves, by the octets that it has."""
 
     NEW = "new"  # octets that weren't sent before
     AGAIN = "again"  # octets that were

@@ -1,4 +1,4 @@
-"""What an import tells, as one JSON object."""
+"""The report of an import, as one JSON object."""
 
 import json
 from collections import Counter
@@ -57,7 +57,7 @@ def _reason_counts(left: Sequence[NotImported]) -> Iterator[dict[str, object]]:
 
 
 def _conversion_finding_counts(imported: Sequence[Imported]) -> Iterator[dict[str, object]]:
-    """What was done to scripts, below the headings that people see."""
+    """The findings of scripts with their counts, below the headings that people see."""
     for heading in Heading:
         words = (it.words for script in imported for it in script.findings if it.heading is heading)
         for word, count in _word_counts_most_frequent_first(words):

@@ -7,7 +7,7 @@ import warnings
 from collections.abc import Iterator
 from dataclasses import dataclass
 
-# What is compared: a name of Linux's tcp_info, and the values that it is compared with, as they are written.
+# The values that names of Linux's tcp_info are compared with, as they are written.
 _NUMBER = re.compile(r"[0-9]{1,9}")
 _STATES = {
     "TCP_CA_Open": "TCP_CA_Open",
@@ -33,14 +33,14 @@ class Assertion:
 
 @dataclass(frozen=True, slots=True)
 class ParsedAssertions:
-    """What a code asserts that is compared, and what isn't compared of it, in words that are counted."""
+    """The assertions of a code that are compared, and the rest of it, in words that are counted."""
 
     assertions: tuple[Assertion, ...]
     others: tuple[str, ...]
 
 
 def parse_assertions(code: str) -> ParsedAssertions:
-    """What a code asserts. It is read, and never run."""
+    """The assertions of a code, which is read and never run."""
     assertions: list[Assertion] = []
     others: list[str] = []
     for statement in _parse_statements(code):
@@ -95,7 +95,7 @@ def _assertion_if_compared(name: str, value: str) -> Assertion | None:
 
 
 def _words_of_uncompared(statement: ast.stmt | None) -> str:
-    """What isn't compared: the names that a statement reads."""
+    """The words for a statement that isn't compared: at most three names of tcp_info that it asserts, or its kind."""
     if not isinstance(statement, ast.Assert):
         return "other code"
     names = sorted({it.id for it in ast.walk(statement.test) if isinstance(it, ast.Name) and it.id.isascii()})

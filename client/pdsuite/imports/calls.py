@@ -103,7 +103,7 @@ def octets_to_write_or_zero(call: Call) -> int:
 
 
 def subject_of_call(call: Call) -> str:
-    """What a call that isn't run is about, in words that are counted."""
+    """The subject of a call that isn't run, in words that are counted."""
     for word, words in _ABOUT:
         if any(map(word.search, call.arguments)):
             return words

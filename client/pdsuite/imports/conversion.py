@@ -67,7 +67,7 @@ class Imported:
     findings: tuple[Finding, ...]
     changed: int  # how many of its packets were
     is_own: bool  # a pdsuite.toml has its settings, and none are a kernel's
-    shared: SetupWords  # what files of set-up say that scripts share
+    shared: SetupWords  # of files of set-up that scripts share
 
 
 @dataclass(frozen=True)
@@ -161,7 +161,7 @@ def _spellings_by_place(items: Sequence[Item]) -> dict[int, Spelling]:
 
 
 def _parse_commands(items: Sequence[Item], load: LoadSetup) -> dict[int, ParsedCommand]:
-    """What each command says, by the places of the items."""
+    """The parsed commands, by the places of the items."""
     first = _place_of_first_packet_or_call(items)
     return {
         number: parse_command_text(
@@ -242,14 +242,14 @@ def _reasons_for_times_not_carried(items: Sequence[Item]) -> Iterator[Reason]:
         carried = shifted if _is_command_code_or_send_buffer_call(item.what) else _NOW
 
 
-# ---- what comes in the place of items
+# ---- rewrites of items
 
 Rewritten = tuple[Rewrite, tuple[Finding, ...]]
 
 
 @dataclass(frozen=True, slots=True)
 class _Known:
-    """What is known of items by their places: of commands, and of calls that others stand for.
+    """The parsed commands, and the calls that others stand for, by the places of items; SMSS, and the tolerance.
 
     Packets stay where there is no SMSS.
     """
@@ -261,7 +261,7 @@ class _Known:
 
 
 def _rewrites_of_items(text: str, items: Sequence[Item], known: _Known) -> Iterator[Rewritten]:
-    """What comes in the place of the items that don't stay as they are."""
+    """The rewrites of the items that don't stay as they are, with their findings."""
     moments = fixed_moments_of_items(items)
     writes = writes_before_items(items, moments)
     first = _place_of_first_packet_or_call(items)

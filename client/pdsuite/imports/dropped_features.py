@@ -20,9 +20,9 @@ _BUFFERS = "buffers act here: they hold another count of octets"
 
 
 def dropped_feature_explaining_failure(events: Sequence[Event], place: int, kind: str, is_early: bool) -> str | None:
-    """What acts at the event at a place, by whose field of this kind a script fails; None where nothing is known.
+    """The feature that acts at an event, by whose field of this kind a script fails; None where none is known.
 
-    It is early where the packet left before its time.
+    `is_early` means that the packet left before its time.
     """
     event = events[place]
     packet = event.item.what
@@ -42,7 +42,7 @@ def dropped_feature_explaining_failure(events: Sequence[Event], place: int, kind
 
 
 def _feature_sending_data(packet: Packet, past: "_History", waits: bool) -> str | None:
-    """What lets octets leave: again or new ones, after a wait or at an input."""
+    """The feature, if any, that lets octets leave: again or new ones, after a wait or at an input."""
     is_again = packet.start < past.top
     if waits and past.una < past.top:
         return _TLP if packet.end >= past.top else _RACK
@@ -61,13 +61,13 @@ def _is_later_than_event_before(event: Event) -> bool:
 
 @dataclass
 class _History:
-    """What came before a place: octets acknowledged and sent, duplicates, SACK blocks, and what was sent again."""
+    """The state before a place: octets acknowledged and sent, duplicates, SACK blocks, and the repair of a loss."""
 
     una: int = 1
     top: int = 1
     duplicates: int = 0
     blocks: int = 0
-    lost: int = 1  # what was sent up to there is repaired
+    lost: int = 1  # the repair of a loss ends there
     has_expired: bool = False
 
     @property

@@ -1,4 +1,4 @@
-"""What an import tells: why a script isn't imported, and what was dropped, changed or noted in one that is."""
+"""The reasons why a script isn't imported, and the findings of one that is: what was dropped, changed or noted."""
 
 from dataclasses import dataclass
 from enum import Enum

@@ -1,4 +1,4 @@
-"""What the names of a kernel's switches mean for this profile: the three tables of docs/IMPORT.md."""
+"""The meanings of a kernel's switches for this profile: the three tables of docs/IMPORT.md."""
 
 from collections.abc import Mapping
 from dataclasses import dataclass, field
@@ -6,17 +6,17 @@ from enum import Enum, auto
 
 
 class Use(Enum):
-    """What a switch comes to."""
+    """How an import treats a switch or a command."""
 
     SETTING = auto()  # a setting of pdsuite.toml stands for it
     FEATURE = auto()  # a feature that this sender hasn't; it is dropped
-    ALIKE = auto()  # what this sender does anyway; it is dropped
+    ALIKE = auto()  # this sender does the same anyway; it is dropped
     REFUSED = auto()  # the script isn't imported
 
 
 @dataclass(frozen=True, slots=True)
 class SwitchMeaning:
-    """What a switch with its value comes to, and in which words."""
+    """The meaning of a switch with its value, or of a command: its use, and the words for that."""
 
     use: Use
     words: str
@@ -142,7 +142,7 @@ _RESTORING = "sysctl_restore_"
 
 
 def meaning_of_switch(name: str, value: str) -> SwitchMeaning:
-    """What a switch with its value comes to."""
+    """The meaning of a switch with its value."""
     if name in SETTINGS:
         return SwitchMeaning(Use.SETTING, SETTINGS[name])
     for feature in FEATURES:
@@ -156,7 +156,7 @@ def meaning_of_switch(name: str, value: str) -> SwitchMeaning:
 
 
 def meaning_of_command(words: tuple[str, ...]) -> SwitchMeaning | None:
-    """What a command comes to that is no switch, where it is known."""
+    """The meaning of a command that is no switch, where it is known."""
     first = tuple(" ".join(words).split()[:3])
     if first[:2] == ("tc", "qdisc") and _LOSSY in " ".join(words):
         return SwitchMeaning(Use.REFUSED, "filters")

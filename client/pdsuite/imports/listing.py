@@ -1,4 +1,4 @@
-"""What an import prints for people: a line or a block for each script, and then a list by kind and count."""
+"""The listing of an import for people: a line or a block for each script, and then a list by kind and count."""
 
 from collections import Counter
 from collections.abc import Iterable, Iterator, Sequence
@@ -15,7 +15,7 @@ _FLOOR = "  of a kernel, min_rto_us: RFC 6298 puts this floor under the whole RT
 
 @dataclass(frozen=True)
 class Listed:
-    """What came of a script: it is imported, or left where it was, or it couldn't be read."""
+    """A script with its result: it is imported, or left where it was, or it couldn't be read."""
 
     path: str
     came: Imported | NotImported | str

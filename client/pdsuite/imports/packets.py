@@ -25,7 +25,7 @@ class Write:
 
 @dataclass(frozen=True, slots=True)
 class Sending:
-    """What is known where a packet is expected: the moment, what was written before, and how exact moments are."""
+    """The facts about an expected packet: SMSS, its moment, the writes before it, and how exact moments are."""
 
     smss: int
     moment: int | None

@@ -1,4 +1,4 @@
-"""What of a script this profile doesn't run, as far as the text alone shows it: docs/SCRIPTS.md and docs/SENDER.md."""
+"""The reasons why this profile doesn't run a script, as far as its text shows them: docs/SCRIPTS.md, docs/SENDER.md."""
 
 import re
 from collections.abc import Iterable, Iterator, Sequence
@@ -26,7 +26,7 @@ _DIGITS = re.compile(r"[0-9]+")
 
 
 def unsupported_reasons(items: Sequence[Item], has_timestamps: bool) -> Iterator[Reason]:
-    """What of these items isn't run; commands and code are looked at elsewhere."""
+    """The reasons why these items aren't run, if any; commands and code are looked at elsewhere."""
     is_header = True
     for item in items:
         is_header = is_header and item.time is None
@@ -99,7 +99,7 @@ def _parse_mss(value: str | None) -> int | None:
 
 
 def _time_reasons(item: Item, acts: bool) -> Iterator[Reason]:
-    """What isn't run of the time of an event, which either acts or is awaited."""
+    """The reasons against the time of an event, which either acts or is awaited."""
     time = item.time or Time(None)
     if item.is_blocking:
         yield Reason(item.line, "a blocking call", _call_text(item.what) if isinstance(item.what, Call) else "")
@@ -158,7 +158,7 @@ def _second_socket_reasons(items: Iterable[Item]) -> Iterator[Reason]:
 
 
 def _syn_reasons(items: Sequence[Item], has_timestamps: bool) -> Iterator[Reason]:
-    """What isn't run of the first packet that arrives, and of each later SYN; a `connect` says it all."""
+    """The reasons against the first packet that arrives, and each later SYN; none where a `connect` says it all."""
     if any(isinstance(it.what, Call) and it.what.name == "connect" for it in items):
         return
     arrived = [(it.line, it.what) for it in items if isinstance(it.what, Packet) and it.what.is_inbound]

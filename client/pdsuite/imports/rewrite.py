@@ -10,7 +10,7 @@ _BLANKS = re.compile(r"[ \t]*")
 
 @dataclass(frozen=True, slots=True)
 class Rewrite:
-    """What comes in the place of a piece of a text: lines, if any, and then comments."""
+    """The replacement of a piece of a text: lines, if any, and then comments."""
 
     start: int
     end: int

@@ -1,4 +1,4 @@
-"""What the set-up of a script says, as settings. It is read and never run."""
+"""Reads the set-up of a script as settings, and never runs it."""
 
 import re
 from collections.abc import Callable, Iterable, Iterator, Mapping, Sequence
@@ -19,7 +19,7 @@ LoadSetup = Callable[[str], str]
 USUAL_RMEM = 6_291_456
 MOST_WSCALE = 14
 ABC_LIMIT = "abc_limit"
-# What holds on a kernel where no command says anything else.
+# The settings of a kernel where no command says anything else.
 KERNEL: Mapping[str, Value] = {
     "initial_window": "rfc6928",
     ABC_LIMIT: 8,
@@ -28,7 +28,7 @@ KERNEL: Mapping[str, Value] = {
     "min_rto_us": 200_000,
 }
 
-# What a command in the midst is that is about nothing known.
+# The words for a command in the midst that is about nothing known.
 RUN = "commands, which are never run"
 
 _RANGES = {"min_rto_us": range(1_000, 60_000_001), "max_rto_us": range(60_000_000, 3_600_000_001)}
@@ -59,7 +59,7 @@ class SetupLine:
 
 @dataclass(frozen=True)
 class Setup:
-    """What a set-up comes to: settings, whether timestamps are agreed, and why the script isn't imported."""
+    """The result of a set-up: settings, whether timestamps are agreed, and the reasons against the script."""
 
     settings: Mapping[str, Value]
     has_timestamps: bool
@@ -68,7 +68,7 @@ class Setup:
 
 @dataclass(frozen=True)
 class SetupWords:
-    """What commands say, each once: settings, features that this sender hasn't, and what it does anyway."""
+    """The words for commands, each once: settings, features that this sender hasn't, and what it does anyway."""
 
     settings: tuple[str, ...] = ()
     features: tuple[str, ...] = ()
@@ -86,13 +86,13 @@ class ParsedCommand:
 
     @property
     def dropped_words(self) -> tuple[str, ...]:
-        """What it says of all that no setting stands for."""
+        """The words for all of it that no setting stands for."""
         own, shared = self.own, self.shared
         return tuple(dict.fromkeys((*own.features, *shared.features, *own.alike, *shared.alike)))
 
 
 def parse_command_text(text: str, line: int, place: CommandPlace, load: LoadSetup) -> ParsedCommand:
-    """What the commands of a text mean, each by itself."""
+    """Parses the commands of a text, each by itself."""
     lines = tuple(_setup_lines_with_defaults_file_inlined(text, line, load))
     found = [(it, _meaning_of_setup_command(it.command, place)) for it in lines]
     reasons: list[Reason] = []
@@ -107,13 +107,13 @@ def parse_command_text(text: str, line: int, place: CommandPlace, load: LoadSetu
 
 
 def _words_of_meanings(meanings: Sequence[SwitchMeaning]) -> SetupWords:
-    """What meanings say in words."""
+    """The words of meanings, each once, by their use."""
     words = {use: tuple(dict.fromkeys(it.words for it in meanings if it.use is use)) for use in Use}
     return SetupWords(words[Use.SETTING], words[Use.FEATURE], words[Use.ALIKE])
 
 
 def merge_setup_words(each: Iterable[SetupWords]) -> SetupWords:
-    """What several say together."""
+    """The words of several together, each once."""
     words = list(each)
     return SetupWords(
         tuple(dict.fromkeys(word for it in words for word in it.settings)),
@@ -123,7 +123,7 @@ def merge_setup_words(each: Iterable[SetupWords]) -> SetupWords:
 
 
 def _meaning_of_setup_command(command: SetupCommand, place: CommandPlace) -> SwitchMeaning:
-    """What a command comes to. Of the switches of set-up the last one counts, so they are refused later."""
+    """The meaning of a command. A switch of set-up is refused later, since the last one of its name counts."""
     match command:
         case Switch(name, value):
             return meaning_of_switch(name, value)
@@ -196,7 +196,7 @@ Setting = tuple[str, Value]
 
 
 def _settings_of_switches(switches: Mapping[str, tuple[str, int]], is_kernel: bool) -> Iterator[Setting | Reason]:
-    """What the switches that are set last say."""
+    """The settings of the switches by their last values, or the reasons against these."""
     for name, (value, line) in switches.items():
         found = meaning_of_switch(name, value)
         if found.use is Use.REFUSED:
@@ -232,7 +232,7 @@ def shift_count_for_buffer(octets: int) -> int:
 
 
 def _settings_of_metrics(metrics: Mapping[str, tuple[str, int]], smss: int) -> Iterator[Setting | Reason]:
-    """What the metrics of a route say of connections whose segments have so many octets."""
+    """The settings of a route's metrics, for segments of so many octets, or the reasons against these."""
     for name, (value, line) in metrics.items():
         if name == "initcwnd":
             word = _initial_window_rfc_or_none(value, smss)

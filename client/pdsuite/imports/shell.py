@@ -17,7 +17,7 @@ class Switch:
 
 @dataclass(frozen=True, slots=True)
 class Metric:
-    """What a route says of connections over it: `initcwnd 10`, `rto_min 300ms`."""
+    """A metric that a route sets for connections over it: `initcwnd 10`, `rto_min 300ms`."""
 
     name: str
     value: str
@@ -43,7 +43,7 @@ _FILE = "defaults.sh"
 _PRODUCT = re.compile(r"\$\(\([ \t]*([0-9]{1,18}(?:[ \t]*\*[ \t]*[0-9]{1,18}){0,7})[ \t]*\)\)")
 _GOES_ON = re.compile(r"\\\r?\n")
 _SIGNS = ";&|<>"
-# What ends one command and lets the next one begin, whatever came of it.
+# The words that end a command. The next one is read as well, whatever would come of the first.
 _ENDS = (";", "&&")
 _UNREAD = re.compile(r"[$`(){}*?~\[\]\\]")
 _ASSIGNED = re.compile(r"([A-Za-z0-9_./-]+)=(.*)", re.DOTALL)
@@ -115,7 +115,7 @@ def _without_redirections_to_dev_null(words: list[str]) -> list[str]:
 
 
 def _parse_command(words: tuple[str, ...]) -> Iterator[SetupCommand]:
-    """What a command says, where it is one of those that are read and all of its words are."""
+    """The switches, metrics or `defaults.sh` of a command that has any and can be read whole; else an `Other`."""
     name, *rest = words
     commands: list[SetupCommand] | None = None
     if not any(map(_UNREAD.search, words)):

@@ -34,7 +34,7 @@ def initial_window_octets(word: object, smss: int) -> int:
 
 @dataclass
 class _SlowStart:
-    """What a sender has sent, and its cwnd under each limit that fits what leaves in the script."""
+    """The state of a sender: how far it has sent, and its cwnd under each limit that fits what leaves in the script."""
 
     smss: int
     windows: dict[int, int]

@@ -17,7 +17,7 @@ _WIDTH = 100
 def settings_files_of(scripts: Mapping[str, tuple[Settings, SetupWords]]) -> Iterator[tuple[str, bytes]]:
     """The files, by their paths from the top, for scripts by theirs. The one in the top lets no other in above it.
 
-    What the set-up says that scripts of a folder share stands once, in the head.
+    The words of a shared set-up for which there is no setting come once, in the head.
     """
     folders: dict[str, list[tuple[str, Settings, SetupWords]]] = {"": []}
     for path, (settings, shared) in scripts.items():
@@ -31,7 +31,7 @@ def settings_files_of(scripts: Mapping[str, tuple[Settings, SetupWords]]) -> Ite
 
 
 def _setup_comments(shared: SetupWords) -> str:
-    """What a set-up says of all that no setting stands for, as comments."""
+    """The words of a set-up that no setting stands for, as comments."""
     return _wrap_comment("Of what defaults.sh says, this sender hasn't: ", shared.features) + _wrap_comment(
         "As defaults.sh says, this sender has: ", shared.alike
     )
@@ -55,6 +55,6 @@ def is_encodable_as_toml_key(name: str) -> bool:
 
 def table_of_script(name: str, settings: Settings) -> str:
     """The table of a script with these settings."""
-    # What JSON escapes TOML escapes alike, but for one octet.
+    # TOML escapes a key as JSON does, but for one octet.
     key = json.dumps(name, ensure_ascii=False).replace("\x7f", "\\u007f")
     return f"\n[{key}]\n{settings_as_toml(settings)}\n"

@@ -1,4 +1,4 @@
-"""What can be done about a script that doesn't pass: new texts for it, by what explanations and recordings say."""
+"""Code actions for a script that doesn't pass or has warnings: new texts for it, by explanations and recordings."""
 
 from collections.abc import Iterator, Sequence
 from dataclasses import dataclass
@@ -69,7 +69,7 @@ def leads_past_failing_line(action: CodeAction, before: Row, after: Row) -> bool
 
 
 def actions_taking_actual_packet_or_result(failing: FailingScript) -> Iterator[CodeAction]:
-    """What takes over what was sent or answered, in place of what the line says, or before it; best first."""
+    """Actions that take over what was sent or answered, in place of what the line says, or before it; best first."""
     event = failing.event
     if event is None:
         return
@@ -200,7 +200,7 @@ def actions_recording_unmatched_outputs(failing: FailingScript, mended: str, rec
 
 
 def record_from_here_actions(failing: FailingScript, recording: str) -> Iterator[CodeAction]:
-    """What stands before the event, and from it on the recording: by its times, or by moments where those don't fit."""
+    """Actions that keep the text before the event, and record the rest: its first time as it is, a moment or `*`."""
     event, events = failing.event, failing.layout.packets_and_calls
     recorded = recorded_events_in(recording)
     if event is None or event not in events or not recorded:

@@ -1,4 +1,4 @@
-"""What the server offers a client, and what the client has declared that it can do."""
+"""The capabilities of the server, and those that a client has declared."""
 
 import os
 from dataclasses import dataclass
@@ -35,7 +35,7 @@ REGISTRATION: Json = {
 
 @dataclass(frozen=True)
 class ClientCapabilities:
-    """What a client can do, and the folders that are open in it."""
+    """The capabilities of a client, and the folders that are open in it."""
 
     roots: tuple[Path, ...] = ()
     watches: bool = False

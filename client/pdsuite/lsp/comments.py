@@ -12,7 +12,7 @@ from pdsuite.packetdrill.tokens import ScriptSyntaxError, tokens_of
 _COMMENT = re.compile(r"//[^\n]*|/\*.*?\*/", re.DOTALL)
 _NAMESPACE = 3
 _LONGEST_NAME = 120
-# What a section's name is without.
+# The marks of a comment, which a section's name is without.
 _MARKS = re.compile(r"^(?://+|/\*+)\s*|\s*\*+/$")
 
 

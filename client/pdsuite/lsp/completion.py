@@ -1,4 +1,4 @@
-"""What may stand at a place: what the program expects there, with snippets where an event may begin."""
+"""The proposals for a place: what the program expects there, with snippets where an event may begin."""
 
 import re
 from collections.abc import Iterator, Sequence
@@ -12,7 +12,7 @@ from pdsuite.scripts.settings import value_as_toml
 
 _KEYWORD, _VALUE, _SNIPPET, _FUNCTION, _PROPERTY = 14, 12, 15, 3, 10
 _PLAIN, _TABSTOPS = 1, 2
-# What is typed of a word already, before a place.
+# The part of a word that is typed already, before a place.
 _TYPED = re.compile(r"[0-9A-Za-z_]*\Z")
 # An octet that begins no token: the program says what could stand in its place.
 PROBE = "\x01"
@@ -73,7 +73,7 @@ def typed_word_start(text: str, offset: int) -> int:
 
 
 def proposals_for_expected(expected: Sequence[str]) -> Iterator[Proposal]:
-    """What may stand where the program expects these."""
+    """The proposals for a place where the program expects these."""
     for words in expected:
         if words == _A_TIME:
             yield from (Proposal(name, _SNIPPET, put, detail) for name, (detail, put) in _SNIPPETS.items())

@@ -1,4 +1,4 @@
-"""What came of a script as diagnostics: where in its text, how grave, and why in a few lines."""
+"""The outcome of a script as diagnostics: where in its text, how grave, and why in a few lines."""
 
 import re
 from collections.abc import Iterator, Mapping
@@ -31,7 +31,7 @@ _SEVERITY = {
     Verdict.UNSUPPORTED: WARNING,
     Verdict.LIMIT: WARNING,
 }
-# What the lines below the first leave out, since the text has it, or the range that it is about.
+# The keys that the lines below the first leave out, since the text has them, or the range that they are about.
 _LEFT_OUT = ("script_packet", "call", "expected_result", "event", "tolerance_us")
 _MORE = {it: it for it in ("found", "runs", "mend")}
 _HIDDEN = re.compile(r"\s+")
@@ -47,7 +47,7 @@ class Related:
 
 @dataclass(frozen=True)
 class Diagnostic:
-    """What is wrong, and where."""
+    """A problem, and its place in a text."""
 
     extent: Extent
     severity: int
@@ -120,7 +120,7 @@ def _diagnostic_message(outcome: ScriptOutcome, cause: Cause | None) -> str:
 
 
 def _row_meaning_or_expected_tokens(cause: Mapping[str, object]) -> str:
-    """What a row means, or of a text that is no script, what it lacks, as `run` says it."""
+    """The meaning of a row, or the tokens that are expected where a text is no script, as `run` says them."""
     match cause.get("expected"):
         case [*before, last]:
             end = " at the end of the text" if cause.get("column") is None else ""

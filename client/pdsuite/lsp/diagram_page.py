@@ -36,7 +36,7 @@ class DiagramPage:
         self._worker = ChildProcess(_DRAWER, job)
 
     def fileno(self) -> int:
-        """What can be read once the process has printed something, or has ended."""
+        """The descriptor that can be read once the process has printed something, or has ended."""
         return self._worker.fileno()
 
     def read_output_and_has_ended(self) -> bool:

@@ -1,4 +1,4 @@
-"""What the documents say of an option, a call, a flag or a setting: the line in which they do."""
+"""The lines of the documents about an option, a call, a flag or a setting."""
 
 import re
 from collections.abc import Iterator
@@ -9,7 +9,7 @@ from pdsuite.programs.locate import PACKAGE_VERSION, TOP
 
 _PACKED_DOCS = Path("/usr/share/doc/pdregress/docs")
 _ROW = re.compile(r"^\| `([^`]+)`[^|]*\|.*\|$", re.MULTILINE)
-# What a line of SCRIPTS.md begins with that is about a field of a packet.
+# The first words of the line of SCRIPTS.md about a field of a packet, or about the header.
 _FIELDS = {
     "flags": "- Flags are ",
     "seq": "- The length is ",
@@ -32,20 +32,20 @@ def _read_doc_page(name: str) -> str:
 
 
 def doc_of_packet_or_header_field(name: str) -> str:
-    """What SCRIPTS.md says of a field of a packet, or of the header."""
+    """The line of SCRIPTS.md about a field of a packet, or about the header."""
     begin = _FIELDS.get(name)
     found = [it for it in _read_doc_page("SCRIPTS.md").splitlines() if begin and it.startswith(begin)]
     return _without_links(found[0].removeprefix("- ")) if found else ""
 
 
 def doc_of_call(name: str) -> str:
-    """What SENDER.md says of a call: the rows of its table."""
+    """The rows of SENDER.md about a call."""
     rows = [row for row in _table_rows("SENDER.md") if row[0].partition("(")[0] == name]
     return "\n\n".join(f"`{call}`: {_without_links(cells[0])}" for call, *cells in rows)
 
 
 def doc_of_setting(key: str) -> str:
-    """What SETTINGS.md says of a key, with the kind of its values."""
+    """The row of SETTINGS.md about a key in words: its values, its default, and what it changes."""
     for name, *cells in _table_rows("SETTINGS.md"):
         if name == key and len(cells) >= 5:
             unit, takes, default, _, changes = cells[:5]

@@ -67,7 +67,7 @@ class _Played:
 
 
 class LanguageFeatures:
-    """Answers of the programs about texts. What was found of a text is kept until it is another."""
+    """Answers about texts, by the programs. The layout of a text is kept until the text is another."""
 
     def __init__(self, queries: ProgramQueries) -> None:
         self.queries = queries
@@ -94,7 +94,7 @@ class LanguageFeatures:
         return [with_unmatched_packets(it, layout, result.cause or _NO_CAUSE) for it in found]
 
     def hover(self, document: Document, result: Result | None, position: Position) -> tuple[str, Extent] | None:
-        """What is shown of a place, and what it is about."""
+        """The words of the hover at a place, and the extent that they are about."""
         offset = document.lines.offset_of(position)
         if path_if_settings_uri(document.uri):
             key = key_at_line(document.lines, document.lines.line_of(offset))
@@ -127,7 +127,7 @@ class LanguageFeatures:
         return _Played("", (), ())
 
     def actions_tested_to_lead_past_failure(self, document: Document, result: Result, places: Extent) -> list[Offer]:
-        """What can be done about a script whose failing line, or warning, lies there; by a run each leads past it."""
+        """The offers for a script whose failing line, or warning, lies there; by a run each leads past it."""
         row = result.outcome.row
         if result.text is None or row.line is None and not result.outcome.warnings:
             return []
@@ -159,7 +159,7 @@ class LanguageFeatures:
         yield from commenting_out_actions(failing)
 
     def completion(self, document: Document, result: Result | None, position: Position, snippets: bool) -> list[Json]:
-        """What may stand at a place."""
+        """The completion items for a place."""
         lines = document.lines
         offset = lines.offset_of(position)
         newline = "\r\n" if "\r\n" in document.text else "\n"
@@ -178,7 +178,7 @@ class LanguageFeatures:
 
 @dataclass(frozen=True)
 class SenderSession:
-    """What is there once programs are proved and built: the workspace, and answers about its texts."""
+    """A session with the programs of a sender: the workspace, and answers about its texts."""
 
     workspace: Workspace
     features: LanguageFeatures
@@ -201,7 +201,7 @@ def _shown_scripts_from_results(workspace: Workspace) -> ShownScripts:
 
 
 def code_lenses(uri: str, result: Result | None, mark: str) -> list[Json]:
-    """What stands above a script: what came of it, whose that is where that has to be shown, and what can be done."""
+    """The lenses above a script: its result, with the sender's mark if there is one, and the command that draws."""
     start = {"line": 0, "character": 0}
     place = {"start": start, "end": start}
     titles = [] if result is None else [(_lens_title(result, mark), "")]

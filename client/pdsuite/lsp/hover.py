@@ -1,4 +1,4 @@
-"""What is shown of a place in a script: what was sent there, how the sender stands after it, and what documents say."""
+"""The hover at a place in a script: what was sent there, how the sender stands after it, and what documents say."""
 
 import re
 from collections.abc import Iterator, Mapping, Sequence
@@ -14,7 +14,7 @@ _TIMER = "timer"
 
 
 def hover_of_event(event: Event, offset: int, met: Sequence[MatchedEvent], recording: str) -> str:
-    """What is shown of an event, in Markdown; `met` is what the recording has of the script's events."""
+    """The hover over an event, in Markdown; `met` has the script's events, with what the recording has of each."""
     parts = [
         _sent_packet_words(event, met, recording),
         _state_after_event_with_changes(event, met),
@@ -40,7 +40,7 @@ def _sent_packet_words(event: Event, met: Sequence[MatchedEvent], recording: str
 
 
 def _sent_by_words(place: int, met: Sequence[MatchedEvent]) -> str:
-    """What let a packet go: the timer, or the last input before it, by its line in the script."""
+    """Says what sent a packet: the timer, or the last input before it, by its line in the script."""
     recorded = met[place].recorded
     if recorded is None or recorded.sent_by is None:
         return ""
@@ -82,7 +82,7 @@ def _facts_with_changes(after: SenderState, before: SenderState | None) -> Itera
 
 
 def _doc_of_place(event: Event, offset: int) -> str:
-    """What the documents say of what stands at a place."""
+    """The line of the documents about the header option, the call or the field at a place."""
     what = event.item.what
     if isinstance(what, HeaderOption):
         return doc_lookup.doc_of_packet_or_header_field("header")

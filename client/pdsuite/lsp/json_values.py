@@ -12,14 +12,14 @@ class MalformedMessageError(Exception):
 
 
 def require_member(value: object, name: str) -> Any:
-    """What an object has under a name, which it has to have."""
+    """The value under a name that an object has to have."""
     if not isinstance(value, Mapping) or name not in value:
         raise MalformedMessageError(f"no {name}")
     return value[name]
 
 
 def nested_member_or_none(value: object, *names: str) -> Any:
-    """What an object has under a name, and that under the next one; None where it hasn't."""
+    """The value under a name of an object, and of that under the next one; None where a name is missing."""
     for name in names:
         if not isinstance(value, Mapping):
             return None

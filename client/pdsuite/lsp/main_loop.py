@@ -27,10 +27,11 @@ from pdsuite.watch.refused_proof import RefusedProof
 from pdsuite.watch.sender import SenderFollower
 from pdsuite.watch.watcher import Watcher
 
-# Where no message comes for so long, what can wait is done. What is due waits no longer than that. And so often
-# programs are looked for that aren't there.
+# After so many seconds without a message, the loop does what can wait.
 _QUIET = 0.5
+# A look at folders or programs that is due waits no longer than this for a pause.
 _PATIENCE = 2.0
+# So often the loop looks for programs that aren't there.
 _AGAIN = 10.0
 # So often it is looked at whether another sender stands, whatever is reported: that takes longer than an answer may.
 _LOOK = 1.0

@@ -9,7 +9,7 @@ from pdsuite.watch.settings_files import SettingsFiles
 
 
 class OpenSettings(SettingsFiles):
-    """What each file holds, or the text that is open of it. Faults are kept by the files that they are about."""
+    """The content of each file, or its open text in place of that. Faults are kept by the files that they are about."""
 
     def __init__(self, option: Layer, refused: Callable[[Iterable[Claim]], list[str]]) -> None:
         super().__init__(option, refused, self._ignore_fault_line)
@@ -75,5 +75,5 @@ class OpenSettings(SettingsFiles):
 
 
 def _file_prefix_pattern(path: Path) -> "re.Pattern[str]":
-    """What a line begins with that is about a file: its place, with a line of it or without."""
+    """The pattern of the begin of a line about a file: its path, with the number of a line or without."""
     return re.compile(rf"{re.escape(printable_path_from_working_folder(path))}(?::\d+)?: ")

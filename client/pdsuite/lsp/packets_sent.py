@@ -74,7 +74,7 @@ def event_text_replaced_by_sent_packet(text: str, event: Event, sent: SentPacket
 
 
 def _field_replacements(text: str, event: Event, name: str, value: str) -> list[tuple[int, int, str]]:
-    """What is put where for a field, if anything is."""
+    """The replacement for a field, if it needs one: where it begins and ends, and the text that is put there."""
     place = event.field_extents.get(name)
     if place is None:
         end = event.item.end

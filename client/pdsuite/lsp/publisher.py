@@ -21,7 +21,7 @@ _UNNECESSARY = 1
 
 
 class Publisher:
-    """What was published, by URIs; a file without diagnostics isn't among it.
+    """Publishes diagnostics, and keeps the last ones of each URI; a file without diagnostics needs no entry.
 
     `documents` has what is open; `has_related` says whether the client shows what belongs to a diagnostic elsewhere,
     and `has_tags` whether it dims one.

@@ -84,7 +84,7 @@ class ProgramQueries:
         return [None if it is None else next(rows) for it in fit]
 
     def expected_after_text(self, before: str, settings: Settings) -> list[str]:
-        """What may stand after a text; nothing where no script begins so."""
+        """The tokens that may stand after a text; none where no script begins so."""
         text = _script_text_or_none_if_unfit(before + PROBE)
         if text is None:
             return []
@@ -103,7 +103,7 @@ class ProgramQueries:
 
 
 def _expected_at_probe(cause: Cause | None, before: str) -> list[str]:
-    """What is expected in the place of the probe, where the script breaks off there."""
+    """The tokens that are expected in the place of the probe, where the script breaks off there."""
     match cause:
         case {"verdict": "syntax", "line": int(line), "column": int(column), "expected": list(expected)}:
             is_probe = line == before.count("\n") + 1 and column == _length_with_unprintables_escaped(

@@ -1,4 +1,4 @@
-"""What a client is shown of the sender: that it changed, what is built or refused, and which scripts it turned."""
+"""Shows a client how the sender stands: that it changed, what is built or refused, and which scripts it turned."""
 
 from collections.abc import Callable, Sequence
 from pathlib import PurePath
@@ -26,7 +26,7 @@ _FIRST_LINES = 2
 
 
 class SenderStatus:
-    """What was shown last. `notify` sends the client a notification, and `request` a request."""
+    """The status that was shown last. `notify` sends the client a notification, and `request` a request."""
 
     def __init__(self, notify: Notify, request: Notify) -> None:
         self.takes_progress = False
@@ -41,7 +41,7 @@ class SenderStatus:
 
     @property
     def result_mark(self) -> str:
-        """What is shown beside every result, where its sender isn't proved, or doesn't stand any more."""
+        """The mark beside every result, where its sender isn't proved, or doesn't stand any more."""
         return self._mark
 
     @property

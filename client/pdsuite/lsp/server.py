@@ -58,7 +58,7 @@ class Request:
 
 
 class Server:
-    """What a client has sent, and what it waits for. `run` looks for the programs, and answers what runs by them."""
+    """The texts and the requests of a client. `run` looks for the programs, and starts a session with them."""
 
     def __init__(self, run: Callable[["Server"], SenderSession]) -> None:
         self.client = ClientCapabilities()
@@ -94,7 +94,7 @@ class Server:
 
     @property
     def sender_status(self) -> SenderStatus:
-        """What the client is shown of the sender."""
+        """The status of the sender, as the client is shown it."""
         assert self._sender_status is not None
         return self._sender_status
 
@@ -105,7 +105,7 @@ class Server:
         return self._transport
 
     def message_handlers(self) -> Mapping[str, Callable[[Any], Any]]:
-        """What is done at each message."""
+        """The handler of each message, by its method."""
         requests: dict[str, Callable[[Any], Any]] = {
             method: self._handler_deferring_request(method) for method in (*_ANSWERS, "workspace/executeCommand")
         }

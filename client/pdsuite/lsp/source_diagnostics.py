@@ -9,12 +9,12 @@ from pdsuite.lsp.json_values import Json
 
 # A line about a place; columns count from 1.
 _PLACED = re.compile(r"(?P<path>/[^:]+\.(?:rt|antt)):(?P<line>\d+):(?P<column>\d+): (?P<said>.*)")
-# What ./prove says of a whole crate.
+# The begin of a line that ./prove prints about a whole crate.
 _OF_CRATE = "prove: "
 
 
 class SourceDiagnostics:
-    """What was published last, by the URIs of sources."""
+    """The diagnostics that were published last, by the URIs of sources."""
 
     def __init__(self, notify: Callable[[str, object], None]) -> None:
         self._notify = notify

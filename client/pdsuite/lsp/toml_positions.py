@@ -8,7 +8,7 @@ from pdsuite.packetdrill.lines import Extent
 from pdsuite.scripts.toml_places import find_toml_places, find_key_in_toml_line
 
 _AT = re.compile(r"\(at line (\d+), column (\d+)\)")
-# What a fault names: a key at its begin, and the script whose table it stands in.
+# The names in a fault: a key at its begin, and the script whose table it stands in.
 _NAMED = re.compile(r'(?P<key>[^:\[\]]+): .*?(?:\(\["(?P<table>.*?)"\]\)|$)', re.DOTALL)
 _TABLE_NAMED = re.compile(r'\["?(?P<table>.*?)"?\]: ')
 

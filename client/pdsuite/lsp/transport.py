@@ -95,7 +95,7 @@ class Transport:
         threading.Thread(target=self._queue_messages_until_end, daemon=True).start()
 
     def fileno(self) -> int:
-        """What can be read once there are messages, or no more come."""
+        """The descriptor that can be read once there are messages, or no more come."""
         return self._wake_reader
 
     @property

@@ -26,7 +26,7 @@ SPENT = 60_000
 
 @dataclass(frozen=True)
 class Result:
-    """What came of a script, its explanation, and of which text that is; `version` is that of an open text."""
+    """The outcome of a script, its explanation, and the text that they are of; `version` is that of an open text."""
 
     file: ScriptFile
     outcome: ScriptOutcome
@@ -51,7 +51,7 @@ class OpenScript:
 
 
 class Workspace:
-    """What is seen in folders and what is open, and the results. Results are by paths, as `pdsuite run` has these."""
+    """The scripts in folders, those that are open, and their results by paths, as `pdsuite run` has these."""
 
     def __init__(
         self,
@@ -126,7 +126,7 @@ class Workspace:
         return self._uris.get(path)
 
     def find_result_if_up_to_date(self, uri: str) -> Result | None:
-        """What came of an open script, where that is of its present text."""
+        """The result of an open script, where it is of the present text."""
         found = self.results.get(self._paths.get(uri, ""))
         document = self._documents.get(uri)
         return found if document is not None and found is not None and found.version == document.version else None
@@ -161,7 +161,7 @@ class Workspace:
         return self._folders.next_look_moment()
 
     def filenos_of_running_programs(self) -> list[int]:
-        """What can be read once a program has ended by itself."""
+        """The descriptors of the programs; one can be read once its program has ended by itself."""
         return [it.program.fileno() for it in self._pool.runs]
 
     def _tell_settings_open_scripts(self) -> None:

@@ -12,7 +12,7 @@ _OCTET = 8_000_000_000  # nanoseconds at one bit a second
 
 
 class PacketFate(Enum):
-    """What becomes of a packet."""
+    """The fate of a packet."""
 
     ARRIVES = "arrives"
     LATE = "arrives late"  # others may overtake it
@@ -22,7 +22,7 @@ class PacketFate(Enum):
 
 @dataclass(frozen=True, slots=True)
 class CarriedPacket:
-    """What becomes of a packet, when it reaches the peer, in microseconds, and how long it waited, in nanoseconds."""
+    """The fate of a packet, when it reaches the peer, in microseconds, and how long it waited, in nanoseconds."""
 
     fate: PacketFate
     at: int = 0
@@ -71,7 +71,7 @@ class Link:
         self._queued = 0
 
     def carry_packet(self, at: int, octets: int) -> CarriedPacket:
-        """What becomes of a packet with so many octets, headers too, that leaves at a moment in microseconds."""
+        """Carries a packet with so many octets, headers too, that leaves at a moment in microseconds; its fate."""
         now = at * _MICROSECOND
         is_lost = self._losses.is_next_lost(max(now, self._free) // _MICROSECOND)
         is_late = self._late.random() < self._path.reorder

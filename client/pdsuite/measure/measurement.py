@@ -29,13 +29,13 @@ class TransferCase:
     runs: int
 
     def seed_of_run(self, seed: int, run: int) -> str:
-        """What chance is drawn by in a run, the same for both senders."""
+        """The seed by which chance is drawn in a run, the same for both senders."""
         return f"{seed} {self.path.name} {self.size} {run}"
 
 
 @dataclass(frozen=True)
 class Pair:
-    """What came of the same transfer under both senders."""
+    """The results of the same transfer under both senders."""
 
     run: int
     before: TransferResult
@@ -48,7 +48,7 @@ class Pair:
 
 @dataclass(frozen=True)
 class MeasuredCase:
-    """What came of the runs that both senders played, and why others came to no end."""
+    """The results of the runs that both senders played to the end, and why others came to none."""
 
     case: TransferCase
     pairs: tuple[Pair, ...]
@@ -57,7 +57,7 @@ class MeasuredCase:
 
 @dataclass(frozen=True)
 class MeasureResult:
-    """What came of all cases; and the status, if a signal ended it before all was played."""
+    """The results of all cases; and the status, if a signal ended the measurement before all was played."""
 
     cases: tuple[MeasuredCase, ...]
     status: int | None = None
@@ -90,7 +90,7 @@ def side_settings_with_path_mss(side: Side, common: Settings, path: NetworkPath)
 
 @dataclass(frozen=True)
 class Measurement:
-    """What is played: cases by a seed, under both sides, which have programs."""
+    """The transfers to play: cases by a seed, under both sides, which have programs."""
 
     cases: Sequence[TransferCase]
     sides: tuple[Side, Side]

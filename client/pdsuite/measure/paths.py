@@ -99,7 +99,7 @@ _RANGES: Mapping[str, tuple[float, float]] = {
     "idle_us": (0, 600_000_000),
 }
 _SIZES = "sizes"
-# What a value of each type is in TOML, and in words.
+# For a field of each type, the types that its value may have in TOML, and the words for them.
 _KINDS: Mapping[object, tuple[tuple[type, ...], str]] = {
     float: ((int, float), "a share"),
     int: ((int,), "a whole number"),

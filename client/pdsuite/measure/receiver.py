@@ -26,7 +26,7 @@ class Receiver:
         self.next = 1
         self.taken = 0
         self.waiting = 0
-        # What came above a gap, apart from one another, the newest first.
+        # The octets that came above a gap, in ranges apart from one another, the newest first.
         self._spans: list[OctetRange] = []
 
     def receive_segment_and_check_immediate_ack(self, span: OctetRange) -> bool:

@@ -1,4 +1,4 @@
-"""What two senders made of transfers: as a table for people, and as JSON."""
+"""The report on transfers under two senders: as a table for people, and as JSON."""
 
 import json
 from collections import Counter

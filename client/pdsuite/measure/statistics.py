@@ -15,14 +15,15 @@ from pdsuite.measure.transfer import TransferResult
 _SAMPLES = 9_999
 _BLOCK = 1_111
 _SEED = 1
-# What is shown is wrong, over all of a table, as often as this at most, and an interval holds what is so but for this.
+# The largest chance that any difference that is shown is wrong, over all tables together. An interval misses the true
+# difference with this chance.
 LEVEL = 0.05
 
 Array = Any
 
 
 class ChangeVerdict(StrEnum):
-    """What a difference shows."""
+    """The verdict on a difference."""
 
     BETTER = "better"
     WORSE = "worse"
@@ -31,7 +32,7 @@ class ChangeVerdict(StrEnum):
 
 
 class Unit(StrEnum):
-    """What a figure counts."""
+    """The unit of a figure."""
 
     TIME = "microseconds"
     SHARE = "share"
@@ -106,7 +107,7 @@ FIGURES = (
 
 
 def goodput_as_share_of_path_rate(it: TransferResult, rate: int) -> float:
-    """What the peer got, as a share of what the path could have brought in that time."""
+    """The octets that the peer got, as a share of what the path could have brought in that time."""
     return it.octets * 8_000_000 / it.time / rate
 
 

@@ -1,6 +1,6 @@
 """One transfer over a modelled path: what a sender is made to send goes over the link, and the peer's ACKs come back.
 
-Whoever plays provides the sender: it gets inputs as lines of a script, and reports what left.
+The caller provides the sender: it gets inputs as lines of a script, and reports what left.
 """
 
 import heapq
@@ -41,7 +41,7 @@ class SegmentDeparture:
 
 @dataclass(frozen=True, slots=True)
 class SenderReply:
-    """What a sender reports after inputs: what left since the last reply, and when its timer expires, if it runs."""
+    """A sender's report after inputs: what left since the last reply, and when its timer expires, if it runs."""
 
     departures: tuple[SegmentDeparture, ...]
     expiry: int | None
@@ -49,7 +49,7 @@ class SenderReply:
 
 @dataclass(frozen=True)
 class TransferResult:
-    """What came of a transfer. Times are in microseconds, that in the queue a mean.
+    """The result of a transfer. Times are in microseconds, that in the queue a mean.
 
     The time is that from the first write until the peer has all, without an idle time in between.
     """
@@ -90,7 +90,7 @@ def play_transfer_as_generator(path: NetworkPath, size: int, seed: str, room: in
 
 
 class Transfer:
-    """What is on its way, in the order of moments, and what was counted."""
+    """The segments and ACKs on their way, in the order of moments, and what was counted."""
 
     def __init__(self, path: NetworkPath, size: int, seed: str, room: int) -> None:
         self._path = path
@@ -98,7 +98,7 @@ class Transfer:
         self._lost_acks = Random(f"{seed} acks")
         self._receiver = Receiver(path.ack_every, path.sack)
         self._writer = TransferWriter(path, size, room)
-        # What reaches the peer and the sender: segments and ACKs in their order, and of a moment last a timer, as None.
+        # Segments for the peer and ACKs for the sender, in their order; last of a moment comes a timer, as None.
         self._at_peer: list[tuple[int, int, OctetRange | None]] = []
         self._at_sender: list[tuple[int, int, Ack | None]] = []
         self._acks = count()
@@ -137,7 +137,7 @@ class Transfer:
         return list(self._lines)
 
     def _advance_until_next_inputs(self, expiry: int | None) -> list[str]:
-        """What is put in before the sender could be answered again, once all of that is known."""
+        """The next inputs, as lines: all that come before the peer could answer a segment that leaves from now on."""
         begin = len(self._lines)
         while len(self._lines) == begin:
             first = self._first_due_moment_at_sender(expiry)
@@ -217,7 +217,7 @@ class Transfer:
         return is_any
 
     def _send_delayed_or_gathered_ack_if_due(self, at: int) -> None:
-        """What the peer does when a timer of its own may be due: it acknowledges, or lets gathered ACKs go."""
+        """Has the peer act if a timer of its own is due: it acknowledges, or lets gathered ACKs go."""
         if self._ack_due == at:
             self._send_or_gather_ack(at)
         if self._gathered is not None and self._gather_due == at:

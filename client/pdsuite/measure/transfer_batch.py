@@ -27,7 +27,7 @@ from pdsuite.scripts.settings import Settings, settings_as_toml
 from pdsuite.scripts.text import LINES, OCTETS
 from pdsuite.signals import Stop
 
-# What no sender sends.
+# Expects a packet that no sender sends.
 _END = "+0 > R 0:0(0)"
 _SENT = re.compile(r"> (\S+)\s+(\d+):(\d+)\(\d+\)(.*)// (\d+)\.(\d{6})")
 
@@ -51,7 +51,7 @@ class _GrowingScript:
     departures: list[SegmentDeparture] = field(default_factory=list)
 
     def command_adding_inputs(self, inputs: Sequence[str]) -> bytes:
-        """What puts inputs at the end, below what takes the packets before them."""
+        """The command that puts inputs at the end, below the lines that take the packets before them."""
         put = [*self.taking, *inputs]
         self.taking = []
         text = "".join(f"{it}\n" for it in (*put, _END)).encode()
@@ -88,7 +88,7 @@ class _GrowingScript:
             self.departures.append(SegmentDeparture(int(found[5]) * SECOND + int(found[6]), start, end, is_by_timer))
 
     def make_sender_reply_and_clear_departures(self, cause: Cause) -> SenderReply:
-        """What the sender reports of all inputs since the last reply."""
+        """The sender's reply to all inputs since the last reply."""
         state = cause.get("state")
         expiry = state.get("expiry_us") if isinstance(state, Mapping) else None
         departures, self.departures = tuple(self.departures), []
@@ -108,7 +108,7 @@ def _packets_in_cause_with_sent_by(cause: Cause) -> Iterator[tuple[str, object]]
 def play_transfers(
     games: Sequence[TransferSteps], program: Path, settings: Settings, stop: Stop
 ) -> list[TransferOutcome]:
-    """What came of transfers that are played against a program under these settings."""
+    """Plays transfers against a program under these settings, and returns their outcomes."""
     text = settings_as_toml(settings)
     words: list[str | Path] = [program, EXPLAIN, JSON, *(["--settings", text] if text else [])]
     batch = _TransferBatch([_GrowingScript(script_name_of_number(number), game) for number, game in enumerate(games)])
@@ -153,7 +153,7 @@ class _TransferBatch:
 
 
 def _query_cause_of_each_script(program: Program, commands: bytes, count: int) -> dict[bytes, Cause]:
-    """What the program explains of the scripts that changed, by their names."""
+    """The explanations of the scripts that the commands change, by their names."""
     answer, errors = program.query_with_errors(commands + SETTLE, (count + 1) * LONGEST_CAUSE)
     if refusal := refusal_kind_if_refused(answer):
         raise UnexpectedAnswerError(f"pdregress refuses a script of a transfer: {refusal}")

@@ -34,7 +34,7 @@ class TransferWriter:
         return self._una == self.total + 1
 
     def take_due_write_sizes(self, at: int) -> Iterator[int]:
-        """What it writes at a moment, write by write."""
+        """The octets that it writes at a moment, write by write."""
         while self._due is not None and self._due <= at and (octets := self._next_write_octets()):
             if self._written == self._current_part_first_octet:
                 self._begins.append(at)

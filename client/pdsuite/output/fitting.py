@@ -5,7 +5,7 @@ import textwrap
 
 from pdsuite.output.styled_text import StyledText
 
-# What these begin are words and facts, which nobody pastes.
+# The lines that begin so hold words and facts, which nobody pastes.
 _PROSE = re.compile(r" +(?=(?:state(?: of the sender \w+)?|reason|rule|expected|found|runs|mend): )")
 _INDENT = "    "
 _LEAST = 20

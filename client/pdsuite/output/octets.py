@@ -42,7 +42,7 @@ def printable_path(path: str | Path, also: str = "") -> str:
 
 
 def make_absolute_printable_path_function() -> Callable[[str], str]:
-    """What makes a path absolute, as people see it, for as long as the working folder stays the same."""
+    """A function that makes a path absolute, as people see it, for as long as the working folder stays the same."""
     here = os.getcwd().rstrip("/")
 
     def absolute_printable_path(path: str) -> str:

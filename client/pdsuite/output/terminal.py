@@ -9,7 +9,7 @@ from pdsuite.output.styled_text import StyledText
 
 
 class Terminal:
-    """What a terminal shows: text that stays, and below it how far the work is, or another line."""
+    """Shows text that stays on a terminal, and below it how far the work is, or another line."""
 
     def __init__(self, color: bool, progress: bool) -> None:
         # Where colours are neither on nor off, rich heeds a NO_COLOR that is empty, too.

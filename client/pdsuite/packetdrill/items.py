@@ -1,4 +1,4 @@
-"""What a script is made of: options, commands and code, packets and calls, each with its time and its place."""
+"""The items of a script: options, commands and code, packets and calls, each with its place, and events with a time."""
 
 from dataclasses import dataclass
 

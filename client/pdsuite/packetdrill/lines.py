@@ -48,7 +48,7 @@ class TextLines:
         return bisect_right(self._starts, offset) - 1
 
     def line_extent_after_indent(self, line: int) -> Extent:
-        """What a line has between its first blanks and its end."""
+        """The part of a line between its first blanks and its end; of a blank line, all of it."""
         content = self.line_content(line)
         start = self.line_start(line)
         indent = len(content) - len(content.lstrip(" \t"))

@@ -13,7 +13,7 @@ _FLAGS = re.compile(r"[FSRPUEWC]+")
 _CLOSING = {"(": ")", "[": "]", "{": "}"}
 _END = Token(TokenKind.SYMBOL, "", 0)
 
-# What a text that isn't read says by its token.
+# The features that aren't read, by the tokens that show them.
 _KNOWN = {
     "md5": "MD5",
     "FO": "Fast Open",

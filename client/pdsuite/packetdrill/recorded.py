@@ -57,7 +57,7 @@ class MatchedEvent:
 
     event: Event
     recorded: RecordedEvent | None
-    after: RecordedEvent | None  # what was recorded last when the event was over
+    after: RecordedEvent | None  # the recorded event that was met last when this one was over
     first: float = 0  # the first moment of the event's time, and the last
     last: float = inf
 
@@ -114,10 +114,10 @@ def tolerance_from_header_or_settings(items: Sequence[Event], settings: int) -> 
 def match_events(
     events: Sequence[Event], recorded: Sequence[RecordedEvent], passed: int, tolerance: int, begin: int = 0
 ) -> Iterator[MatchedEvent]:
-    """What each event is in the recording. The first events, `passed` in number, are known to have passed.
+    """Matches each event with its event in the recording, if it has one. The first `passed` events have passed.
 
-    Packets are met in the order in which they left. Past the events that passed, those are met that are most alike, and
-    one is met where it left before the event's last moment, give or take the tolerance.
+    Packets are met in the order in which they left. Later events meet the packets that are most alike, where these left
+    before the last moments of the events, give or take the tolerance.
     """
     inputs = [place for place, it in enumerate(recorded) if it.is_input]
     pairs = _pair_outputs(events, recorded, passed)

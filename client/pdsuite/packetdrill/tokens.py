@@ -7,7 +7,7 @@ from enum import Enum
 
 
 class TokenKind(Enum):
-    """What a token is."""
+    """The kind of a token."""
 
     NUMBER = "number"
     HEX = "hexadecimal"

@@ -22,7 +22,7 @@ class Plot(Enum):
 
 @dataclass(frozen=True, slots=True)
 class DiagramChoice:
-    """What is requested: a pattern of paths, and how many failing scripts are drawn without one."""
+    """The requested diagrams: of the scripts whose path or name fits `pattern`, and of the first `most` that fail."""
 
     pattern: str | None = None
     most: int = MOST

@@ -1,4 +1,4 @@
-"""What a process that draws is to do, and how it is done: the table, and a page for each script."""
+"""The job of a process that draws, and how it is done: the table, and a page for each script."""
 
 from collections.abc import Callable
 from dataclasses import dataclass
@@ -62,7 +62,7 @@ def _write_script_page(job: PageJob, entry: PageEntry, recorder: Recorder) -> No
 
 
 def _known_or_recorded_line_diff(entry: PageEntry, recorder: Recorder | None) -> LineDiff | None:
-    """What each line of a script that fails was met by, where that can be recorded or is known."""
+    """The line diff of a script that fails, where it is known or can be recorded."""
     outcome, text = entry.outcome, entry.text
     if recorder is None or text is None or outcome.row.verdict is not Verdict.FAIL or outcome.line_diff is not None:
         return outcome.line_diff

@@ -1,4 +1,4 @@
-"""What the page of a measurement is made of: a section for each case."""
+"""The parts of the page of a measurement: a section for each case."""
 
 from dataclasses import dataclass
 

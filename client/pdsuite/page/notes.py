@@ -1,4 +1,4 @@
-"""What the table says of the sender: why it isn't built or proved, and which scripts it turned."""
+"""The table's notes on the sender: why it isn't built or proved, and which scripts it turned."""
 
 from collections.abc import Sequence
 from dataclasses import dataclass
@@ -23,7 +23,7 @@ class TurnedScript:
 
 @dataclass(frozen=True, slots=True)
 class SenderNotes:
-    """What the table has of the sender: each refusal by its lines, and the scripts that turned."""
+    """The notes on the sender: the lines of each refusal, and the scripts that turned."""
 
     refusals: tuple[tuple[str, ...], ...] = ()
     turned: tuple[TurnedScript, ...] = ()

@@ -60,7 +60,7 @@ class PageUpdates:
             worker.terminate_if_running_and_get_status()
 
     def filenos_of_drawing_workers(self) -> list[int]:
-        """What can be read once a process has drawn something or has ended."""
+        """The descriptors of the drawing processes; each can be read once its process has drawn something or ended."""
         return [it.fileno() for it in self._workers]
 
     def set_programs_and_discard_drawn(self, regress: Path, record: Path | None, is_unproved: bool) -> None:
@@ -131,7 +131,7 @@ class PageUpdates:
         paths = {it.outcome.path for it in entries}
         self._drawn = {path: it for path, it in self._drawn.items() if path in paths}
         changed = [it for it in entries if self._drawn.get(it.outcome.path) != it]
-        changed.sort(key=lambda it: it.plot is not Plot.NONE)  # what takes longest comes last, and to all
+        changed.sort(key=lambda it: it.plot is not Plot.NONE)  # diagrams take longest, so they come last, and to all
         diagrams = sum(it.plot is not Plot.NONE for it in changed)
         count = max(1, min(len(os.sched_getaffinity(0)), max(len(changed) // _SHARE, diagrams)))
         rows = tuple(table_row_of(it.outcome) for it in entries)

@@ -23,9 +23,9 @@ if TYPE_CHECKING:
 _HERE = Path(__file__).parent
 # Stands in each page, and shows whose it is.
 GENERATOR = "pdsuite"
-# What all pages use, beside the table.
+# The style sheet of all pages, beside the table.
 _STYLE = "page.css"
-# What says of all pages that their sender doesn't stand any more, so that no page has to be written again for it.
+# Says of all pages that their sender doesn't stand any more, so that no page has to be written again for it.
 SENDER = "sender.css"
 STATIC = (_STYLE, "page.js", SENDER)
 _RANKS: tuple[Verdict | CountedAs, ...] = (
@@ -54,7 +54,7 @@ def static_file_octets(name: str) -> bytes:
 
 
 def css_marking_pages_of_sender_before(words: str) -> bytes:
-    """What has all pages say that they are of the sender before, and why, and dims them; nothing without words."""
+    """The CSS that marks all pages as those of the sender before, says why, and dims them; empty without words."""
     if not words:
         return b""
     shown = "".join(f"\\{ord(it):x} " if it in '"\\\n' else it for it in f"OF THE SENDER BEFORE: {words}")

@@ -1,4 +1,4 @@
-"""What the page of a script shows, as values: all that comes from scripts stands there as it is shown."""
+"""The page of a script, as values: all that comes from scripts stands there as it is shown."""
 
 from collections.abc import Iterator, Mapping
 from dataclasses import dataclass
@@ -28,9 +28,9 @@ from pdsuite.scripts.text import ScriptText
 
 _LONGEST_LINE = 160
 
-# What stands elsewhere than below the packets.
+# The keys that the page shows elsewhere than below the packets.
 _ELSEWHERE = ("script_packet", "actual_packet", "reason_words")
-# What the page says of the sender's state and its numbers.
+# The page's glosses on the sender's state and its numbers, by their keys.
 _GLOSSES = {
     "name": "as RFC 9293 names it",
     "una": "the oldest octet that isn't acknowledged",
@@ -121,9 +121,9 @@ class ScriptView:
     unmatched: tuple[str, ...]
     more_unmatched: int
     state: tuple[NamedFact, ...]
-    below: tuple[str, ...]  # what is explained in lines, where nothing is by keys
+    below: tuple[str, ...]  # the explanation in lines, where there is none by keys
     diagram: Diagram
-    met: tuple[DiffLine, ...]  # what each line was met by, where the script fails
+    met: tuple[DiffLine, ...]  # the line diff, where the script fails
 
     @property
     def marks(self) -> list[Mark]:

@@ -39,9 +39,9 @@ class ProcessOutput:
 
 @dataclass(frozen=True, slots=True)
 class ProgramAnswer:
-    """What a program wrote on its two outputs, or why there is no answer: what ended it may be a start beside it.
+    """The two outputs of a program, or why there is no answer; where `is_shared`, a start beside it may have ended it.
 
-    In `errors` all of it stands, also of a program that refused its input.
+    `errors` is all of its standard error, also of a program that refused its input.
     """
 
     output: bytes
@@ -83,7 +83,7 @@ def parse_batch_answers_or_faults(output: bytes, errors: bytes, status: str, cou
 
 
 def answer_from_status(output: bytes, errors: bytes, status: str) -> ProgramAnswer:
-    """What came of a start, whose status is a number or why there is none."""
+    """The answer of a start, whose status is a number or why there is none."""
     if status in _REGULAR:
         return ProgramAnswer(output, errors, raw=ProcessOutput(output, errors, status))
     if not status.isdecimal():

@@ -97,7 +97,7 @@ class Build:
         self.end_tool()
 
     def fileno(self) -> int:
-        """What can be read where a phase begins, and at the end."""
+        """The descriptor that can be read once a phase begins, and at the end."""
         return self._out.fileno()
 
     @property

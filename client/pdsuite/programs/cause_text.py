@@ -1,4 +1,4 @@
-"""What the program explains of a script by keys, in the words and lines of its blocks."""
+"""The program's explanation of a script by keys, in the words and lines of its blocks."""
 
 import re
 from collections.abc import Iterator, Mapping
@@ -7,7 +7,7 @@ from itertools import chain, repeat
 from pdsuite.output.octets import printable_text
 from pdsuite.programs.protocol import Cause
 
-# What is explained by keys, in the order of a block, each with its words.
+# The keys of an explanation, in the order of a block, each with its words.
 WORDS = {
     "script_packet": "script packet",
     "actual_packet": "actual packet",
@@ -60,7 +60,7 @@ def explanation_lines_below_first(cause: Cause) -> tuple[str, ...]:
 
 
 def value_in_words_without_unit(key: str, value: object) -> str:
-    """What stands under a key, in words; of moments and spans seconds."""
+    """The value of a key in words; moments and spans are in seconds."""
     if value is None:
         return _NULLS.get(key, "none")
     if key.endswith(_MICROSECONDS) and isinstance(value, int):
@@ -77,7 +77,7 @@ def dropped_segment_lines_and_rules(cause: Cause) -> Iterator[str]:
 
 
 def origin_line_or_timer(origin: object) -> str:
-    """What sent a packet: a line, or the timer; empty where that isn't known."""
+    """The line or the timer that sent a packet; empty where that isn't known."""
     if not isinstance(origin, Mapping):
         return ""
     return f"line {origin['line']}" if "line" in origin else "the timer"
@@ -99,7 +99,7 @@ def packet_with_origin_line_or_timer(packet: str, origin: object) -> str:
 
 
 def make_printable(text: str) -> str:
-    """What the program has made safe to print, and anything else as it is shown."""
+    """The text itself where it is printable, as the program makes it, else as people see it."""
     return text if text.isprintable() else printable_text(text)
 
 

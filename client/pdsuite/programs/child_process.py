@@ -33,7 +33,7 @@ class ChildProcess:
         self.has_ended = False
 
     def fileno(self) -> int:
-        """What can be read once it has printed something, or has ended."""
+        """The descriptor that can be read once the process has printed something, or has ended."""
         return self._out.fileno()
 
     def read_lines(self) -> list[str]:

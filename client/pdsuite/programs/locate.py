@@ -13,9 +13,9 @@ PROGRAMS_VARIABLE = "PDSUITE_PROGRAMS"
 PACKAGE_VERSION = TOP / "version"
 # In a tree: what runs its programs as they stand, without proofs.
 BATCH_TOOL = TOP / "tools/run_batch.py"
-# What builds them so and keeps them, for any tree.
+# The tool that builds them so and keeps them, for any tree.
 BUILD_TOOL = TOP / "tools/build_unproved.py"
-# What says where a tree's program is, if it is proved.
+# The tool that says where a tree's program is, if it is proved.
 PROVED_TOOL = "tools/proved_program.sh"
 REGRESS = "pdregress"
 RECORD = "pdrecord"

@@ -27,10 +27,10 @@ from pdsuite.programs.locate import (
 
 # While files change all the time, the tools are queried so often.
 _TRIES = 5
-# What stands where a program and all that is made beside it lie.
+# Part of the paths of a program and of all that is made beside it.
 _MADE = "/out/"
 
-# What is reported where a sender isn't the one that it was at the beginning.
+# The words for a sender that isn't the one that it was at the beginning.
 CHANGED = "the sender has changed meanwhile"
 
 T = TypeVar("T")
@@ -76,7 +76,7 @@ FoundProgram = StampedProgram | Fault
 
 @dataclass(frozen=True)
 class _LookupState:
-    """What stood when all files had these stamps, and whether each later writing gives one of them another stamp."""
+    """The programs found when all files had these stamps, and whether each later writing changes one of the stamps."""
 
     found: Mapping[str, FoundProgram]
     stamps: Mapping[str, Stamp]
@@ -98,7 +98,7 @@ class ProgramLookup:
         self._seen: _LookupState | None = None
 
     def current_programs_or_faults(self) -> Mapping[str, FoundProgram]:
-        """What stands now, by the names of programs."""
+        """The programs that stand now, by their names; a fault in place of each that doesn't."""
         return self._cached_or_requeried_state().found
 
     def require_program(self, name: str) -> StampedProgram:
@@ -167,7 +167,7 @@ class SenderGuard:
 
 
 def _map_in_threads(work: Callable[[T], U], each: Sequence[T]) -> list[U]:
-    """What a function answers to each: looks wait for the tools of their trees."""
+    """The results of a function for each item, in threads, since looks wait for the tools of their trees."""
     if len(each) < 2:
         return [work(it) for it in each]
     # Only who looks at several senders pays for what makes threads.

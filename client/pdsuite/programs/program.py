@@ -75,15 +75,15 @@ class Program:
         self.kill_and_close()
 
     def query(self, commands: bytes, longest: int) -> bytes:
-        """What the program answers, up to the line `total`. It is read while the commands are written."""
+        """The answer of the program, up to the line `total`. It is read while the commands are written."""
         return self._drive_generator_until_answer(self._answer_until_total_as_generator(commands, longest))
 
     def query_with_errors(
         self, commands: bytes, longest: int, longest_errors: int | None = None
     ) -> tuple[bytes, bytes]:
-        """What the program answers, and all that it has printed on standard error when the answer is there.
+        """The answer of the program, and all that it has printed on standard error by then.
 
-        Neither is longer than `longest`, or what is printed than `longest_errors`, in octets.
+        The limit of each in octets is `longest`, and of standard error `longest_errors` where that is given.
         """
         return self._drive_generator_until_answer(
             self.query_with_errors_as_generator(
@@ -97,7 +97,7 @@ class Program:
         """The same, which gives way where it has to wait until the program can be read or written (`fileno`)."""
         self._most, self._kept, self._errors = longest_errors, longest_errors + 1, b""
         answer = yield from self._answer_until_total_as_generator(commands, longest)
-        # What was printed before the line that ends an answer is in the pipe by then.
+        # All that was printed before the line that ends an answer is in the pipe by then.
         while self._read_or_write_ready(0):
             self._raise_if_errors_too_long()
         errors, self._errors = self._errors, b""
@@ -138,12 +138,12 @@ class Program:
             raise ProgramEndedError(f"{self._name} said more than was asked")
 
     def finish_and_read_errors(self, commands: bytes, longest: int) -> bytes:
-        """What the program prints on standard error at these commands. They are its last, and it ends."""
+        """The standard error of the program at these commands. They are its last, and it ends."""
         self._run_to_regular_end_or_refuse(commands, longest)
         return self._errors
 
     def record_script_with_first_error_line(self, text: bytes, longest: int) -> tuple[bytes, str]:
-        """What the program writes of this text, which is all of its input, and its first line on standard error."""
+        """The output of the program for this text, which is all of its input, and its first line on standard error."""
         self._run_to_regular_end_or_refuse(text, longest)
         return bytes(self._got[1:]), printable_octets(self._errors.partition(b"\n")[0], _SHOWN)
 
@@ -153,7 +153,7 @@ class Program:
         return ProcessOutput(bytes(self._got[1:]), self._errors, str(status))
 
     def read_titled_section_per_file(self, count: int, longest: int) -> Iterator[tuple[bytes, bytes]]:
-        """What the program writes of so many files: of each the first word of its title, and the lines after that."""
+        """The sections that the program writes of so many files: each title's first word, and the lines after it."""
         self._is_last = True
         self._queue_commands_and_write_what_fits(b"")
         for _ in range(count):
@@ -199,7 +199,7 @@ class Program:
         return self._kill_group_and_get_status()
 
     def fileno(self) -> int:
-        """What can be read once a program that nobody queries has something to print, or has ended."""
+        """The descriptor that can be read once a program that nobody queries has printed something, or has ended."""
         return self._selector.fileno()
 
     def require_alive_and_silent(self) -> None:
@@ -219,7 +219,7 @@ class Program:
                 pipe.close()
 
     def _take_printed_up_to(self, end: int) -> bytes:
-        """What was printed up to this newline; that newline stays, before what comes next."""
+        """Takes all that was printed up to this newline; that newline stays, before what comes next."""
         answer = bytes(self._got[1 : end + 1])
         del self._got[:end]
         return answer
@@ -250,7 +250,7 @@ class Program:
         except BlockingIOError:
             return
         except OSError:
-            # Whoever reads no more has ended, or is about to answer.
+            # A program that reads no more has ended, or is about to answer.
             self._unsent = b""
         if not self._unsent:
             if self._is_watched(self._in):

@@ -1,4 +1,4 @@
-"""What is written to the program, and what its answers say. Names are given here and seen nowhere else."""
+"""The commands to the program, and how its answers are read. Names are given here and seen nowhere else."""
 
 import json
 import re
@@ -23,9 +23,9 @@ _BLOCK = re.compile(rb"(s\d{1,4}):(\d{1,6}): (.*)")
 _INDENT = b"  "
 _TOTAL = re.compile(rb"total (\d+) pass \d+ fail \d+ syntax \d+ unsupported \d+ limit \d+ pending 0")
 
-# What is printed of a script as JSON, by its keys.
+# The explanation of a script, by the keys of its JSON.
 Cause = Mapping[str, object]
-# What a program that counts steps says of a job: the script's name, and how many steps it took.
+# The line of a job where a program counts steps: the script's name, and how many steps it took.
 _STEPS = re.compile(rb"^job \d+ (\S+) steps (\d+)$", re.MULTILINE)
 
 _WORDS = (Verdict.PASS, Verdict.SYNTAX, Verdict.UNSUPPORTED, Verdict.LIMIT)
@@ -101,7 +101,7 @@ def parse_blocks_by_script_and_line(errors: bytes) -> dict[tuple[bytes, int], li
 
 
 def parse_causes_by_script_and_line(errors: bytes) -> dict[tuple[bytes, int], Cause]:
-    """What was printed as JSON, an object a line, by the names of scripts and their lines; other lines say else."""
+    """Explanations printed as JSON, one a line, by the names of scripts and their lines; other lines are skipped."""
     causes: dict[tuple[bytes, int], Cause] = {}
     for line in errors.split(b"\n"):
         if not line.startswith(b"{"):

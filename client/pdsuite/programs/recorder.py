@@ -30,7 +30,7 @@ _RECORDED = b"recorded"
 
 @dataclass(frozen=True, slots=True)
 class Recording:
-    """What was recorded, with its trace; or nothing, and why."""
+    """A recording, with its trace if it has one; or nothing, and why."""
 
     text: str
     fault: str = ""
@@ -104,13 +104,13 @@ def _recording_in_section(word: bytes, octets: bytes) -> Recording:
 
 
 def recording_cases(tree: Path, scripts: Iterable[tuple[Settings, bytes]], is_alone: bool = False) -> ProgramCases:
-    """What has a tree's program, as it stands, record scripts, which are texts under settings."""
+    """The cases in which a tree's program, as it stands, records scripts, which are texts under settings."""
     cases = [Case(_settings_words(it), text, _ROOM + _WRITTEN * len(text), is_alone) for it, text in scripts]
     return ProgramCases(tree, RECORD, (TRACE,), tuple(cases))
 
 
 def recording_from_answer(answer: ProgramAnswer) -> Recording:
-    """What such a start came to."""
+    """The recording in the answer to such a case, or why there is none."""
     lines = [line for line in answer.errors.split(b"\n") if line.strip()]
     fault = answer.fault or (printable_octets(lines[0]) if lines else "")
     return Recording(answer.output.decode("utf-8", "surrogateescape"), fault)

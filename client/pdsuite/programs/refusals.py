@@ -24,7 +24,7 @@ _REFUSALS = (UNKNOWN_KEY, BAD_VALUE)
 # Where the answer to a question ends.
 _AFTER_TOTAL = re.compile(rb"(?<=pending 0\n)")
 
-# What was queried already, and why it is refused, if it is.
+# The keys with their values that were queried already, and why each is refused, if it is.
 _Known = dict[tuple[str, str], str | None]
 
 

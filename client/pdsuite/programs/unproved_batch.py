@@ -100,7 +100,7 @@ class BatchTool:
         self._descriptor = os.pidfd_open(self._process.pid)
 
     def fileno(self) -> int:
-        """What can be read once the tool has ended."""
+        """The descriptor that can be read once the tool has ended."""
         return self._descriptor
 
     def end_tool(self) -> None:
@@ -122,5 +122,5 @@ class BatchTool:
             raise BuildError("\n".join([f"unproved: {reason}", *map(printable_octets, lines)]))
 
     def read_result_file(self, number: int, end: str) -> bytes:
-        """What came of an input: its output, its errors or its status."""
+        """The result of an input: its output, its errors or its status."""
         return (self._answers / f"{number:06}.{end}").read_bytes()

@@ -48,14 +48,14 @@ def build_and_use_programs_if_possible(way: BuildMode, stop: Stop, screen: Scree
 
 
 def build_progress_printer(screen: Screen, of: str = "") -> Callable[[str, float], None]:
-    """What keeps a line at the bottom of a terminal: the phase of a build, and for how many seconds it goes on."""
+    """Makes the note that keeps a line at the bottom of a terminal: the phase of a build, and its seconds so far."""
     return lambda phase, seconds: screen.keep_bottom_line(
         f"building{of}: {_PHASES.get(phase, phase)}, {int(seconds)} s"
     )
 
 
 def unproved_notice(is_kept: bool) -> str:
-    """What is printed before a sender is run that isn't proved, and of which a build is kept or not."""
+    """The notice before a sender is run that isn't proved, and of which a build is kept or not."""
     doing = "running without proofs" if is_kept else "building first, then running without proofs"
     return f"unproved: {doing}; {_prove_command()} proves the programs"
 

@@ -21,7 +21,7 @@ from pdsuite.signals import Stop
 
 # So many starts may end the programs on the way; then others go on, of the same build.
 _ENDS = 256
-# What one session may take, in seconds.
+# One session may take so many seconds.
 _SECONDS = 1_000_000
 _READ = 1 << 18
 _PARTS = 3

@@ -1,11 +1,11 @@
-"""What the program says of a script: its verdict, with a number and a word."""
+"""A script's row: its verdict, with a number and a word."""
 
 from dataclasses import dataclass
 from enum import StrEnum
 
 
 class Verdict(StrEnum):
-    """What came of a script: as the program says it, or why the program couldn't say."""
+    """The verdict on a script: the program's, or why it gave none."""
 
     PASS = "pass"
     FAIL = "fail"

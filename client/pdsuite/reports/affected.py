@@ -1,4 +1,4 @@
-"""What a changed sender affects in its tree, as lines."""
+"""The rows, runs and paragraphs of its tree that a changed sender affects, as lines."""
 
 from collections.abc import Iterator, Sequence
 from itertools import groupby

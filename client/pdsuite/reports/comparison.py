@@ -1,4 +1,4 @@
-"""What two senders do with the same scripts: for people, and as JSON."""
+"""The comparison of two senders by the same scripts: for people, and as JSON."""
 
 import json
 from collections.abc import Iterator, Sequence

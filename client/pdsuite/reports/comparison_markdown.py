@@ -1,4 +1,4 @@
-"""What two senders do with the same scripts, as Markdown for a pull request."""
+"""The comparison of two senders by the same scripts, as Markdown for a pull request."""
 
 from collections.abc import Iterator
 

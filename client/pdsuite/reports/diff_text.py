@@ -1,4 +1,4 @@
-"""What each line of a script was met by, as lines for people."""
+"""The line diff of a script: as lines for people, and by keys."""
 
 from collections.abc import Iterator
 
@@ -42,7 +42,7 @@ def packet_in_columns(packet: PacketColumns) -> str:
 
 
 def _mark_line(packet: PacketColumns) -> str:
-    """What marks the fields that differ."""
+    """The marks below the fields that differ."""
     return "".join(
         ("^" if it.mark is not Mark.NONE else " ") * len(it.text) + " " * it.blanks for it in packet
     ).rstrip()

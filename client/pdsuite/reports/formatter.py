@@ -1,4 +1,4 @@
-"""What every form of a report offers."""
+"""The parts that every form of a report offers."""
 
 from collections.abc import Sequence
 from typing import Protocol
@@ -11,13 +11,13 @@ class Formatter(Protocol):
     """A report in parts: what stands first, what stands for each script in the order of paths, what stands last."""
 
     def opening_before_scripts(self, count: int) -> StyledText:
-        """What stands before so many scripts."""
+        """The opening of a report of so many scripts."""
 
     def streamed_script_entry_or_none(self, number: int, outcome: ScriptOutcome) -> StyledText | None:
-        """What stands for a script, if anything does; the first has the number 1."""
+        """The entry of a script, if it has one; the first script has the number 1."""
 
     def totals_after_scripts(self, totals: OutcomeTotals, seconds: float) -> StyledText:
-        """What stands at the end."""
+        """The totals at the end of the report."""
 
 
 def format_report(form: Formatter, outcomes: Sequence[ScriptOutcome], totals: OutcomeTotals, seconds: float) -> str:

@@ -107,7 +107,7 @@ def step_summary(outcomes: Sequence[ScriptOutcome], totals: OutcomeTotals) -> st
 
 
 def _annotation_title(outcome: ScriptOutcome) -> str:
-    """What an annotation is called by: the row, in the fewest words."""
+    """The title of an annotation: the row, in the fewest words."""
     if outcome.is_known_failure:
         return f"known: {outcome.row}"
     return "passes, though it is expected not to" if outcome.row.verdict is Verdict.PASS else str(outcome.row)

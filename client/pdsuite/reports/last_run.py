@@ -1,4 +1,4 @@
-"""What a run has to do with the one before it: which scripts failed then, what is new since, and what it leaves."""
+"""A run beside the one before it: which scripts failed then, which rows are new since, and the report it leaves."""
 
 from collections.abc import Callable, Sequence
 from pathlib import Path
@@ -10,7 +10,7 @@ from pdsuite.reports.new_rows import NewRowsFormatter
 from pdsuite.reports.report_cache import LastReport
 from pdsuite.run.outcomes import ScriptOutcome
 
-# What a run may do with each line that no report holds.
+# Prints a line that stands in no report.
 PrintNote = Callable[[str], None]
 
 

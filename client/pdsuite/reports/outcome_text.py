@@ -1,4 +1,4 @@
-"""What a report has of a script that doesn't pass: its row in words, the lines below that; and its warnings."""
+"""A script in a report: its row in words, the lines below that, and its warnings."""
 
 from pdsuite.output.octets import printable_octets, printable_path
 from pdsuite.programs.verdict import Verdict
@@ -18,7 +18,7 @@ def path_and_line(outcome: ScriptOutcome) -> str:
 
 
 def meaning_suffix(outcome: ScriptOutcome) -> str:
-    """What comes after the row: what it means, where that is explained."""
+    """The words after the row: its meaning, where that is explained."""
     why = _expected_syntax_or_reason(outcome) if outcome.row.verdict is Verdict.SYNTAX else outcome.why
     return f": {why}" if why else ""
 
@@ -50,7 +50,7 @@ def reason_for_row(outcome: ScriptOutcome) -> str:
 
 
 def _expected_syntax_or_reason(outcome: ScriptOutcome) -> str:
-    """What a text that is no script lacks where it breaks off, as far as that is explained."""
+    """The tokens expected where a text that is no script breaks off, else the meaning of its row, where explained."""
     below = outcome.block_lines[1:]  # the first is the line of the text
     expected = next((it for it in below if it.startswith(_EXPECTED)), "")
     if not expected:
@@ -65,7 +65,7 @@ def one_line_summary(outcome: ScriptOutcome) -> str:
 
 
 def warning_texts(outcome: ScriptOutcome) -> list[str]:
-    """What is warned of."""
+    """The warnings of a script, in words."""
     end = " (strict)" if outcome.is_strict else ""
     return [f"passes, but {it}{end}" for it in outcome.warnings]
 

@@ -25,7 +25,7 @@ _STYLES: dict[Verdict | CountedAs, str] = {
     CountedAs.KNOWN: "dim",
     CountedAs.UNEXPECTED: "bold red",
 }
-# What is shown only where every script is.
+# Rows that are counted so are shown only where every script is.
 _UNSHOWN = (Verdict.PASS, Verdict.NOT_RUN, CountedAs.KNOWN)
 _WARNED = "yellow"
 _STRICT = "bold red"
@@ -58,7 +58,7 @@ class PlainFormatter:
         )
 
     def styled_warnings(self, outcome: ScriptOutcome) -> StyledText:
-        """What is warned of, a line each."""
+        """The warnings of a script, a line each."""
         style = _STRICT if outcome.is_strict else _WARNED
         return StyledText([(f"{line}\n", style) for line in warning_lines_of(outcome)])
 
@@ -80,7 +80,7 @@ def totals_style(totals: OutcomeTotals) -> str:
 
 
 def _line_diff_lines_if_requested(outcome: ScriptOutcome) -> list[str]:
-    """What each line was met by, where that is requested."""
+    """The lines of the line diff, where that is requested."""
     if outcome.line_diff is None:
         return []
     # Only who requests it pays for what reads scripts.

@@ -1,4 +1,4 @@
-"""What two senders send with the same scripts, and how long it takes: as lines, and by keys."""
+"""How much two senders send with the same scripts, and how long it takes: as lines, and by keys."""
 
 from collections.abc import Iterator, Sequence
 

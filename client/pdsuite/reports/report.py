@@ -39,7 +39,7 @@ class Report:
         self._screen.show_progress(done, len(self._scripts))
 
     def unshown_or_not_run_outcomes(self) -> list[ScriptOutcome]:
-        """What wasn't shown: outcomes that still wait, and scripts that weren't run."""
+        """The outcomes that weren't shown: those that still wait, and those of scripts that weren't run."""
         return [self._waiting.get(it.index, _not_run_outcome(it)) for it in self._scripts[len(self.outcomes) :]]
 
     def show_rest_and_totals(self, seconds: float) -> OutcomeTotals:

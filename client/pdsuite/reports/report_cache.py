@@ -26,7 +26,7 @@ _PATIENCE = 5.0
 _PAUSE = 0.02
 _NEW = "new"
 _REPORTS = "*.json"
-# What ends the first line of a report, so that it can be read by itself.
+# Completes the first line of a report, so that it can be read by itself.
 _END = b"]}"
 _LONGEST = 80
 _NOT_RUN = Verdict.NOT_RUN
@@ -55,12 +55,12 @@ class LastReport:
         self._file = self._folder / _cache_file_name(self.of)
 
     def load_if_kept(self) -> SavedReport | None:
-        """What is kept, if anything is."""
+        """The report that is kept, if one is."""
         octets = self._read_file_if_of_these_paths()
         return None if octets is None else _parse_cached_report_or_fault(self._file, octets)
 
     def save_run_keeping_rows_of_unrun(self, outcomes: Sequence[ScriptOutcome], is_part: bool) -> None:
-        """Keeps the rows of a run. What was known of scripts that it had no row of stays, if they are there still."""
+        """Keeps the rows of a run. Earlier rows of scripts that it didn't run stay, if `is_part` or it found these."""
         absolute = make_absolute_printable_path_function()
         with _folder_lock(self._folder):
             if is_part or any(it.row.verdict is _NOT_RUN for it in outcomes):
@@ -173,7 +173,7 @@ def _remove_oldest_reports(folder: Path) -> None:
 
 
 def _newest_first_key(file: Path) -> tuple[float, str]:
-    """What puts the newest file first, and one that went last."""
+    """The key that sorts the newest file first, and one that is gone last."""
     try:
         return -file.stat().st_mtime, file.name
     except FileNotFoundError:

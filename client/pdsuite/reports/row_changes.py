@@ -1,4 +1,4 @@
-"""What turned between two reports: one function of their rows."""
+"""The scripts that turned between two reports: one function of their rows."""
 
 from collections.abc import Iterator
 from dataclasses import dataclass

@@ -17,7 +17,7 @@ _REPORTS = "*.json"
 
 @dataclass(frozen=True, slots=True)
 class SavedRow:
-    """What a report says of a script."""
+    """A script's entry in a report: its row, and what else decides whether it makes the run fail."""
 
     row: Row
     is_strict: bool = False  # a warning makes the script fail

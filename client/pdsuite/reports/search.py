@@ -1,4 +1,4 @@
-"""What a search came to: what it found, and what its inputs reached."""
+"""The report of a search: its find, and what its inputs reached."""
 
 from collections.abc import Iterator, Mapping, Sequence
 from itertools import zip_longest

@@ -2,8 +2,8 @@
 
 `collect` finds the scripts that are meant (`SuiteScript`); `batches` groups those with equal settings (`Batch`), cut
 into pieces; a `Mapper` has them settled, by the processors of this machine (`local_mapper`), a Dask cluster (`cluster`)
-or `rt try` (`unproved_run`). What comes is a stream of `Step`: a `SettledPiece` with its outcomes, or a note that a
-program ended. `ScriptOutcome` has a script's row and what explains it, `OutcomeTotals` the counts.
+or `rt try` (`unproved_run`). It yields a stream of `Step`: a `SettledPiece` with its outcomes, or a note that a program
+ended. `ScriptOutcome` has a script's row and what explains it, `OutcomeTotals` the counts.
 
     SuiteScript .. --batch_scripts_by_equal_settings--> Batch --Mapper--> Step, Step, ..  --> reports
                                          |
@@ -18,8 +18,8 @@ program ended. `ScriptOutcome` has a script's row and what explains it, `Outcome
 - Steps come in the order of the batches, whichever mapper takes them and however many programs run: so two runs print
   the same octets, and a mapper can be replaced by another one.
 - A program that ends costs only the script on which it does; all others have their rows.
-- What goes to a cluster is plain values (`serialize`): no class travels, and a worker counts only if its program has
-  the same SHA-256.
+- Only plain values go to a cluster (`serialize`): no class travels, and a worker counts only if its program has the
+  same SHA-256.
 - An outcome says why by what the program explained; `line_diff` and `locate_row` put that beside the text.
 
 Scripts share a program because starting one costs more than running a script, and a piece is small so that the first

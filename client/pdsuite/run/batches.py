@@ -33,7 +33,7 @@ class SuiteScript:
 
 
 def make_outcome_with_row_line(script: SuiteScript, row: Row, line: bytes | None = None) -> ScriptOutcome:
-    """What came of a script, whose text has this line where the row names one."""
+    """The outcome of a script, whose text has this line where the row names one."""
     return ScriptOutcome(script.path, script.settings, row, line, is_strict=script.is_strict, expected=script.expected)
 
 

@@ -172,7 +172,7 @@ class _Cluster:
             raise self._scheduler_gone_error() from error
         except KilledWorker as killed:
             return _error_steps(task.run, f"{killed.allowed_failures + 1} workers ended that had it")
-        except Exception as error:  # whatever a worker has for this
+        except Exception as error:  # any error of a worker's
             return _error_steps(task.run, f"a worker says: {_printable_in_one_short_line(error)}")
         if isinstance(answer, str):
             self._refuse_worker_and_resend(task, answer)
@@ -246,7 +246,7 @@ class _Cluster:
     def _call_on_workers_omitting_silent(
         self, workers: list[str], function: Callable[..., Any], *words: Any
     ) -> dict[str, Any]:
-        """What workers answer to a call, without those that don't."""
+        """The answers of workers to a call; workers that don't answer are left out."""
         if not workers:
             return {}
         answers = self._call_or_raise_scheduler_gone(
@@ -255,7 +255,7 @@ class _Cluster:
         return {it: answer for it, answer in answers.items() if not isinstance(answer, OSError)}
 
     def _call_or_raise_scheduler_gone(self, call: Callable[..., Any], *words: Any, **more: Any) -> Any:
-        """What the scheduler answers."""
+        """The answer of the scheduler. Raises CutShortError where it went away."""
         try:
             return call(*words, **more)
         except (OSError, CancelledError) as error:

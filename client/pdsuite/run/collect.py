@@ -1,4 +1,4 @@
-"""What the commands have in common: which scripts are meant, and with which settings."""
+"""The part that the commands have in common: which scripts are meant, and with which settings."""
 
 import os
 import sys

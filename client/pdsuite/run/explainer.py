@@ -1,4 +1,4 @@
-"""What the program explains of scripts beside their rows: by which options it does, and outcomes with that."""
+"""The program's explanations of scripts beside their rows: the options for them, and outcomes with them."""
 
 from dataclasses import replace
 
@@ -9,7 +9,7 @@ from pdsuite.run.outcomes import ScriptOutcome, end_warning_of_passing_row
 from pdsuite.run.script_style import drop_insert_windows_if_script_has_none
 from pdsuite.scripts.text import ScriptText
 
-# What has it explain why scripts don't pass, that as JSON, and what those that pass leave at their ends.
+# These have it explain why scripts don't pass, do so as JSON, and say what those that pass leave at their ends.
 EXPLAIN = "--explain"
 JSON = "--json"
 LEFTOVERS = "--leftovers"

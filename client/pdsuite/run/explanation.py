@@ -43,7 +43,7 @@ def _add_place_and_packet_fields_to_outcome(
 
 
 def explanation_with_place_and_packet_fields(row: Row, cause: Cause, text: ScriptText) -> Mapping[str, object]:
-    """What the program says of a row, safe to print, with the place in the text and the packets by field."""
+    """The program's explanation of a row, safe to print, with the place in the text and the packets by field."""
     script = text.octets.decode("utf-8", "surrogateescape")
     layout, lines = layout_of(script), TextLines(script)
     explained: dict[str, object] = {key: _make_value_printable(value) for key, value in cause.items() if key != _NAME}
@@ -89,7 +89,7 @@ def _parse_packet_event_if_any(packet: object) -> Event | None:
 def _packet_fields(event: Event) -> dict[str, object]:
     """A packet by the names that kinds of failures have, as far as it has these fields."""
     packet = event.item.what
-    assert isinstance(packet, Packet)  # what is expected to leave
+    assert isinstance(packet, Packet)  # one that is expected to leave
     fields: dict[str, object] = {
         it: _field_text(event, event.field_extents[it]) for it in ("time", "flags") if it in event.field_extents
     }
@@ -103,7 +103,7 @@ def _field_text(event: Event, extent: Extent) -> str:
 
 
 def _make_value_printable(value: object) -> object:
-    """What the program has made safe to print, and anything else as it is shown."""
+    """A value in which all strings are made printable."""
     match value:
         case str():
             return make_printable(value)

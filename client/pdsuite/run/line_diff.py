@@ -1,4 +1,4 @@
-"""What each line of a script was met by, to its end: the recording of its inputs beside what it expects."""
+"""The line diff of a script: what it expects, line by line to its end, beside the recording of its inputs."""
 
 from collections.abc import Iterator, Mapping, Sequence
 from dataclasses import dataclass, replace
@@ -29,7 +29,7 @@ _TIME = "time"
 class DiffLine:
     """An event of a script, and what it was met by where that is another, both in fields; a line counts from 1.
 
-    What no line expects has no event and no line; an event for which nothing was sent was met by nothing.
+    A packet that no line expects has no event and no line; an event for which nothing was sent was met by nothing.
     """
 
     line: int | None
@@ -40,7 +40,7 @@ class DiffLine:
 
 @dataclass(frozen=True, slots=True)
 class LineDiff:
-    """What each line of a script was met by, or why that isn't known."""
+    """The lines of a script, each with what it was met by, or why that isn't known."""
 
     lines: tuple[DiffLine, ...]
     fault: str = ""
@@ -49,7 +49,7 @@ class LineDiff:
 def line_diff_or_recording_fault(
     row: Row, block_lines: Sequence[str], text: str, recording: Recording, settings: Settings
 ) -> LineDiff:
-    """What each line of a script that fails was met by, as a recording with its trace says."""
+    """The line diff of a script that fails, by a recording with its trace, or why there is no recording."""
     if recording.fault:
         return LineDiff((), recording.fault)
     return LineDiff(diff_script_events_with_recording(row, block_lines, text, recording.text, settings))
@@ -58,7 +58,7 @@ def line_diff_or_recording_fault(
 def diff_script_events_with_recording(
     row: Row, block_lines: Sequence[str], text: str, recording: str, settings: Settings
 ) -> tuple[DiffLine, ...]:
-    """What each event of a script that fails was met by, in a recording with its trace."""
+    """The events of a script that fails, beside those of a recording with its trace."""
     layout, recorded = layout_of(text), recorded_events_in(recording)
     allowed = tolerance_from_header_or_settings(layout.items, tolerance_us_of_settings(settings))
     met = list(

@@ -1,4 +1,4 @@
-"""What came of scripts: outcomes and their totals."""
+"""The outcomes of scripts, and their totals."""
 
 from collections.abc import Iterable, Mapping
 from dataclasses import dataclass
@@ -17,7 +17,7 @@ if TYPE_CHECKING:
 UNPROVED = "UNPROVED"
 # The line that the program marks, in what it explains by keys.
 _TEXT_LINE = "text_line"
-# What the words on the end of a script that passes may begin with.
+# The words on the end of a script that passes may begin with this.
 _IT = "it "
 
 
@@ -38,10 +38,10 @@ class PassWarning(StrEnum):
 class ScriptOutcome:
     """A script's path and settings, its row, the line of its text that the row names, and why it is so.
 
-    That is what the row means and the lines below it, as the program prints them that explains, and the same as an
-    object where that is requested. Of a script that passes, the program says what is to be warned of at its end, and of
-    one that fails what each line was met by, where that is requested. Whoever runs it says whether a warning makes the
-    script fail, and which row is expected of it.
+    `why` and `block_lines` are what the row means and the lines below it, as the program explains it; `explanation` is
+    the same as an object, where that is requested or the text is no script. `at_end` is the warning at the end of a
+    script that passes. `line_diff` compares one that fails line by line, where that is requested. `is_strict` says
+    whether a warning makes the script fail, and `expected` which row is expected of it.
     """
 
     path: str
@@ -83,7 +83,7 @@ class ScriptOutcome:
 
     @property
     def warnings(self) -> tuple[str, ...]:
-        """What is to be warned of, in the words that follow `passes, but`."""
+        """The warnings of a script that passes, in the words that follow `passes, but`."""
         if self.row.verdict is not Verdict.PASS:
             return ()
         words = self.at_end if self.row.number else PassWarning.NO_EVENT
@@ -98,7 +98,7 @@ class ScriptOutcome:
 
 
 def end_warning_of_passing_row(row: Row, cause: Mapping[str, object] | None) -> str:
-    """What is to be warned of at the end of a script that passes, in the words that follow `passes, but`."""
+    """The warning at the end of a script that passes, if there is one, in the words that follow `passes, but`."""
     if cause is None or row.verdict is not Verdict.PASS or not row.number:
         return ""
     return make_printable(str(cause.get("what", ""))).removeprefix(_IT)
@@ -140,7 +140,7 @@ class OutcomeTotals:
 
     @property
     def unproved_mark(self) -> str:
-        """What ends the last line where the sender isn't proved."""
+        """The mark that ends the last line where the sender isn't proved."""
         return f" {UNPROVED}" if self.is_unproved else ""
 
     def __str__(self) -> str:

@@ -68,12 +68,12 @@ Mapper = Callable[[Iterable[Batch]], Generator[Step, None, None]]
 
 
 def starter_without_explanations(program: Path, workers: int, cache: int, stop: Stop) -> Start:
-    """What starts the program for a run under settings, in which it prints nothing of scripts but their rows."""
+    """A function that starts the program for a run under settings, to print nothing of scripts but their rows."""
     return starter_with_options(program, ("--workers", str(workers)), cache, stop)
 
 
 def starter_with_options(program: Path, options: Sequence[str], cache: int, stop: Stop) -> Start:
-    """What starts the program for a run under settings, with options that say what it explains of scripts."""
+    """A function that starts the program for a run under settings; the options say what it explains of scripts."""
 
     def start(settings: Settings) -> Program:
         words: list[str | Path] = [program, *options, "--cache", str(cache)]

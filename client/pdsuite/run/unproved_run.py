@@ -66,7 +66,7 @@ class StartBatch:
 
 @dataclass(frozen=True)
 class UnprovedResults:
-    """What came of a suite: refused settings, or else scripts, and recordings."""
+    """The results of a suite: the settings that are refused, or else settled scripts and recordings."""
 
     refused: list[Refusal] = field(default_factory=list)
     settled: list[SettledPiece] = field(default_factory=list)
@@ -79,7 +79,7 @@ class UnprovedResults:
 
 @dataclass(frozen=True)
 class UnprovedPlan:
-    """What programs are started on: claims to be queried, and all pieces, which are recorded if need be.
+    """The plan of a run: the claims to be queried, and all pieces, which are recorded if need be.
 
     The options say what the program explains of scripts.
     """
@@ -117,7 +117,7 @@ class UnprovedPlan:
 def load_scripts_and_make_plan(
     batches: Iterable[Batch], claims: Iterable[Claim], explain_options: tuple[str, ...], records: bool = False
 ) -> UnprovedPlan:
-    """What is to be run of these batches, whose scripts are read."""
+    """Reads the scripts of these batches, and makes the plan of their run."""
     pieces = [
         [(script, load_script_text_or_fault(script)) for script in piece] for batch in batches for piece in batch.pieces
     ]
@@ -125,7 +125,7 @@ def load_scripts_and_make_plan(
 
 
 def build_and_run_plan(plan: UnprovedPlan, tree: Path, stop: Stop, note: Callable[[str], None]) -> UnprovedResults:
-    """What comes of a plan, after one build or two."""
+    """The results of a plan, after one build or two."""
     return results_after_rerunning_unanswered(
         plan, build_and_run_cases(plan.cases_for_claims_batches_and_recordings(tree), stop), tree, stop, note
     )
@@ -134,7 +134,7 @@ def build_and_run_plan(plan: UnprovedPlan, tree: Path, stop: Stop, note: Callabl
 def results_after_rerunning_unanswered(
     plan: UnprovedPlan, answers: Sequence[Sequence[ProgramAnswer]], tree: Path, stop: Stop, note: Callable[[str], None]
 ) -> UnprovedResults:
-    """What the answers say. Where a start ends early, a second build starts its scripts one by one."""
+    """The results of a plan, by its answers. Where a start ends early, a second build starts its scripts one by one."""
     (settings_answers, *explained), recorded = answers
     if refused := _claim_refusals_or_raise_fault(plan.claims, settings_answers):
         return UnprovedResults(refused)
@@ -180,7 +180,7 @@ class _BatchResults:
         }
 
     def settled_piece_from_rows(self, piece: Sequence[tuple[SuiteScript, ScriptText | str]]) -> SettledPiece:
-        """What came of a piece."""
+        """A piece with the outcomes and explanations of its scripts."""
         rows = {script.index: self._rows[script.index] for script, text in piece if isinstance(text, ScriptText)}
         causes = {index: cause for index, (_, cause) in rows.items() if cause is not None}
         return make_settled_piece_of_scripts(piece, [row for row, _ in rows.values()], causes)

@@ -80,7 +80,7 @@ class Claim:
 
 @dataclass(frozen=True, slots=True)
 class ScriptRules:
-    """What holds for a script: its settings, whether a warning makes it fail, and the row that it is known to have."""
+    """The rules of a script: its settings, whether a warning makes it fail, and the row that it is known to have."""
 
     settings: Settings
     is_strict: bool
@@ -88,7 +88,7 @@ class ScriptRules:
 
 
 class SuiteConfig:
-    """What holds for scripts, from `--settings` and from the files above them, each read once."""
+    """The rules of scripts, from `--settings` and from the files above them, each read once."""
 
     def __init__(self, option: Layer, read: Callable[[Path], Layer | None] | None = None) -> None:
         self._option = option
@@ -97,7 +97,7 @@ class SuiteConfig:
         self._known: dict[str, tuple[ScriptRules, Layer]] = {}
 
     def rules_of_script(self, script: ScriptFile) -> ScriptRules:
-        """What holds for a script."""
+        """The rules of a script."""
         common, beside = self._known.get(script.folder) or self._compute_and_cache_folder_rules(script.folder)
         own = beside.tables.get(script.name)
         if own is None:
@@ -133,13 +133,13 @@ class SuiteConfig:
         return bool(self._layers_from_folder_up_to_root(script.folder))
 
     def all_claims(self) -> Iterator[Claim]:
-        """What `--settings` and the files that were read say, whichever scripts it is about."""
+        """The claims of `--settings` and of the files that were read, whichever scripts they are about."""
         yield from every_claim_of_layers(
             [self._option, *(layer for _, layer in self.sorted_read_layers_with_folders())]
         )
 
     def _compute_and_cache_folder_rules(self, folder: str) -> tuple[ScriptRules, Layer]:
-        """What holds for all scripts of a folder of which the file beside them says nothing, and that file."""
+        """The rules of the scripts in a folder that the file beside them doesn't name, and the layer of that file."""
         is_strict = next(
             (it.strict[""] for it in self._layers_from_folder_up_to_root(folder) if "" in it.strict), False
         )
@@ -292,7 +292,7 @@ def _toml_error_reason_with_position(error: ValueError | RecursionError, octets:
 
 
 def every_claim_of_layers(layers: Iterable[Layer]) -> Iterator[Claim]:
-    """What layers say, one after another."""
+    """The claims of layers, one layer after another."""
     for layer in layers:
         for key, value in layer.keys.items():
             yield Claim(layer.places.file_and_line_of_key("", key), "", key, value)

@@ -20,7 +20,7 @@ class Number:
 
     @property
     def accepted_values_text(self) -> str:
-        """What it takes, for people."""
+        """The values that it takes, for people."""
         return f"{self.least:,} to {self.most:,} {self.unit}"
 
 
@@ -33,7 +33,7 @@ class Word:
 
     @property
     def accepted_values_text(self) -> str:
-        """What it takes, for people."""
+        """The values that it takes, for people."""
         return " or ".join(map(value_as_toml, self.words))
 
 
@@ -92,7 +92,7 @@ def _is_needlessly_quoted(key: str, value: Value) -> bool:
 
 
 def refusal_help(key: str, value: Value, reason: str, others: Iterable[str] = ()) -> str | None:
-    """What helps against a refusal of a key or its value; `others` are the client's own keys in that place."""
+    """Help with a refusal of a key or its value, if there is any; `others` are the client's own keys in that place."""
     name = new_name_hint(key, value)
     if reason == BAD_VALUE and key in KEYS:
         takes = f"it takes {KEYS[key].accepted_values_text}"

@@ -1,4 +1,4 @@
-"""What is expected of a script that is known not to pass: the first words of its row, and the reason."""
+"""The expectation of a script that is known not to pass: the first words of its row, and the reason."""
 
 import re
 from dataclasses import dataclass
@@ -6,7 +6,7 @@ from dataclasses import dataclass
 _LINE = "[1-9][0-9]{0,5}"
 # A row without the script's name, or its first words. One that passes is no such row.
 _ROW = re.compile(rf"fail(?: {_LINE}(?: [a-z]+)?)?|(?:syntax|unsupported|limit)(?: {_LINE})?|error(?:: \S.*)?")
-# What may come after the words that are expected.
+# After the words that are expected, a row ends or goes on with one of these characters.
 _ENDS = ("", " ", ":")
 
 

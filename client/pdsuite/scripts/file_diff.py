@@ -1,4 +1,4 @@
-"""What a script's file would hold: a text in the place of its own, and what that changes, line by line."""
+"""The text that a script's file would hold in place of its own, and what that changes, line by line."""
 
 from collections.abc import Iterator
 from dataclasses import dataclass

@@ -29,7 +29,7 @@ def refusal_reason_if_renamed(key: str, value: Value) -> str | None:
 
 
 def new_name_hint(key: str, value: Value) -> str | None:
-    """What to write in place of a key, of its value or of both, in words; None where neither has another name."""
+    """The new name of a key, of its value or of both, in words; None where neither has one."""
     name, word = KEYS.get(key), _find_new_word(KEYS.get(key, key), value)
     parts = [f"its name is {name}"] if name else []
     return " and ".join([*parts, *([f'the word for "{value}" is "{word}"'] if word else [])]) or None

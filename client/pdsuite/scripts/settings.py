@@ -3,7 +3,7 @@
 import re
 from collections.abc import Mapping
 
-# What TOML can hold; the program says which of it a key takes.
+# Any value that TOML can hold; the program says which ones a key takes.
 Value = object
 # Keys with their values, in the order of keys.
 Settings = tuple[tuple[str, Value], ...]

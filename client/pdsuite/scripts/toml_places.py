@@ -4,7 +4,7 @@ import re
 from collections.abc import Iterator, Mapping
 from dataclasses import dataclass
 
-# What may hold something that looks like a key: comments and strings, those of several lines first.
+# Comments and strings, in which something may look like a key; strings of several lines come before the others.
 _HIDING = re.compile(
     r'#[^\n]*|"""(?:\\.|[^\\])*?"""|\'\'\'.*?\'\'\'|"(?:\\.|[^"\\\n])*"|\'[^\'\n]*\'',
     re.DOTALL,
@@ -60,7 +60,7 @@ def _lines_of_tables_and_keys(text: str) -> Iterator[tuple[int, str, str]]:
 
 
 def _blank_long_string_or_comment(found: "re.Match[str]") -> str:
-    """What stands in the place of a string or comment: nothing but the newlines of one that has several lines."""
+    """The newlines alone of a comment or of a string in three quotes; any other string stays as it is."""
     whole = found.group()
     return "\n" * whole.count("\n") if whole.startswith((*_LONG, "#")) else whole
 

@@ -67,7 +67,7 @@ def _edit_present_tables(text: str, edits: TableEdits, end: str) -> str:
 
 
 def _edited_table_or_its_comments(key: Key, item: Item, expected: TableEdit, end: str) -> _Body:
-    """What stands in the place of a table: the table, or the comments of one that has nothing to say any more."""
+    """The edited table, or its comments alone where the table goes."""
     if expected is TableRemoval.TAKEN:
         return (
             _body_from_first_comment([it for it in item.value.body if it[0] is None]) if isinstance(item, Table) else []

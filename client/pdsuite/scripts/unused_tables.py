@@ -40,7 +40,7 @@ def unused_table_warning_lines_under_paths(suite: SuiteConfig, paths: Iterable[P
 def layers_under_paths(suite: SuiteConfig, paths: Iterable[Path]) -> Iterator[tuple[str, Layer]]:
     """The files that were read and lie in folders which paths name, by their folders.
 
-    What stands above these is about scripts that aren't meant.
+    Files above these folders are left out, since their tables are about scripts that aren't meant.
     """
     roots = [os.path.realpath(it) for it in paths if os.path.isdir(it)]
     for folder, layer in suite.sorted_read_layers_with_folders():

@@ -23,10 +23,10 @@ _LATEST = 32
 
 @dataclass
 class CandidateLists:
-    """What a search tries, by a seed: the same lists for the same recordings.
+    """The lists of inputs that a search tries, by a seed: the same lists for the same recordings.
 
-    The sizes are those of the lists. The first lists are the initial inputs themselves; each later one has as many new
-    scenarios as variations.
+    Each list has as many inputs as its size says: new scenarios, and as many variations once some inputs are kept. The
+    first lists begin with the initial inputs on top of that, each with at most twice its size of them.
     """
 
     seed: int

@@ -1,4 +1,4 @@
-"""What recordings reach: how many have data in flight, a recovery, an expiry, each way of closing."""
+"""The coverage of recordings: how many have data in flight, a recovery, an expiry, each way of closing."""
 
 import re
 from collections import Counter

@@ -1,4 +1,4 @@
-"""What a search finds: recorded inputs under which another sender differs, or a state is reached."""
+"""The finds of a search: recorded inputs under which another sender differs, or a state is reached."""
 
 from collections.abc import Sequence
 from dataclasses import dataclass

@@ -31,7 +31,7 @@ _RESTART = "slow_start_after_idle"
 _MORE_ROUNDS = 10
 # So long before and after an RTO.
 _AROUND = (-400_000, -1, 0, 1, 1, 1_000, 500_000, 2 * SECOND, 10 * SECOND)
-# What inputs set, each one of these values.
+# The settings that inputs may have, each with one of these values.
 KEYS: dict[str, tuple[Value, ...]] = {
     "abc_limit": (2, 3, 8),
     "granularity_us": (1, 100_000, 1_000_000),
@@ -226,7 +226,7 @@ class _Generator:
         return tuple(sorted(acts, key=_delay_after_handshake))
 
     def _draw_idle_writes(self, chosen: Settings) -> tuple[PlannedCall, ...]:
-        """What is written after idle times."""
+        """The writes after idle times."""
         if _RESTART not in dict(chosen) and not self._happens_more_with_theme(Theme.IDLE, 8):
             return ()
         count = self._draw_between(1, 2)

@@ -23,7 +23,7 @@ class Input:
 
 @dataclass(frozen=True, slots=True)
 class Inputs:
-    """What a sender is given, in the order of moments. If it is exact, packets have to leave at their very moments."""
+    """The inputs of a sender, in the order of moments. If exact, packets have to leave at their very moments."""
 
     settings: Settings
     events: tuple[Input, ...]

@@ -22,7 +22,7 @@ _GAPS = (0, 1, 1_000, 10_000, 100_000, 200_000, 500_000, SECOND, 3 * SECOND, 70 
 _OFFSETS = (0, 1, 500, 1_000, 1_001, 2_000, 3_000, 4_000)
 _NODELAY = (4, "SOL_TCP", "TCP_NODELAY")
 _MOST_EDITS = 3
-# What is put in that isn't there yet: how often of some, and how often where a theme comes first.
+# The kinds of new inputs: the weight of each, and its weight where a theme comes first.
 _KINDS: Mapping[str, tuple[int, Theme | None, int]] = {
     "write": (10, None, 10),
     "close": (2, Theme.CLOSE, 8),

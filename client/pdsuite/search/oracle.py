@@ -75,7 +75,7 @@ class SenderOracle(Protocol):
         """The recordings of inputs or of scripts, with states."""
 
     def run_scripts_for_rows(self, scripts: Sequence[ConfiguredScript]) -> list[Row]:
-        """What comes of scripts."""
+        """The rows of scripts."""
 
     def explanation_lines_of_script(self, script: ConfiguredScript) -> list[str]:
         """The row of a script that doesn't pass with what it means, and the lines below it."""
@@ -134,7 +134,7 @@ def _program_or_unproved_oracle(sender: Sender, stop: Stop, sessions: Mapping[Pa
 
 def input_counts_of_successive_queries() -> Iterator[int]:
     """How many inputs senders are queried about at once, one time after the other."""
-    # What is found at once costs few inputs; where it isn't, many keep all processors at work.
+    # Few inputs at first make an early find cheap; many later on keep all processors at work.
     yield from _FIRST
     yield from repeat(_LATER)
 
@@ -167,7 +167,7 @@ class ProgramOracle:
     def _query_groups_of_equal_settings(
         self, items: Sequence[A], work: Callable[[Sequence[A]], Sequence[U]]
     ) -> list[U]:
-        """What comes of each item, where those with equal settings are handed on together, so many at most."""
+        """The result of each item: `work` gets those with equal settings together, `_PIECE` of them at most."""
         pieces = list(_places_grouped_by_settings(items))
         answers = self._map_in_threads(lambda it: work([items[place] for place in it]), pieces)
         found = {place: one for piece, answer in zip(pieces, answers) for place, one in zip(piece, answer)}
@@ -235,7 +235,7 @@ class UnprovedOracle:
         return [answer.fault] if answer.fault else _explanation_lines(answer.errors)
 
     def _run_each_script_in_own_start(self, scripts: Sequence[ConfiguredScript], *words: str) -> list[ProgramAnswer]:
-        """What comes of each script in a start of its own, which costs little."""
+        """The answer to each script, run in a start of its own, which costs little."""
         cases = tuple(Case((), _set_commands(it.settings) + _add_commands([it])) for it in scripts)
         return self._session.run_cases(ProgramCases(self._tree, REGRESS, words, cases))
 

@@ -1,4 +1,4 @@
-"""What comes first in a search: the settings and themes that the functions and definitions consult which changed."""
+"""The emphasis of a search on settings and themes, by the functions and definitions that changed."""
 
 import re
 from collections.abc import Iterable, Mapping, Sequence
@@ -35,7 +35,7 @@ _PARTS: Mapping[str, tuple[Sequence[str], Sequence[Theme]]] = {
 
 
 def emphasis_of_changes(changed: Iterable[Mapping[str, Any]], fixed: frozenset[str]) -> Emphasis:
-    """What comes first, by names that stand in the lines that changed, or else in all that changed."""
+    """The emphasis of a search, by names that stand in the lines that changed, or else in all that changed."""
     each = list(changed)
     for names in ("changed", "whole"):
         found = _emphasis_by_names({name for it in each for name in it[names]}, fixed)

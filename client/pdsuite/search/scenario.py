@@ -1,4 +1,4 @@
-"""What a connection is planned to meet: the handshake, the network, the peer and the program that writes."""
+"""The scenario of a connection: the handshake, the network, the peer and the program that writes."""
 
 from collections.abc import Mapping
 from dataclasses import dataclass, field
@@ -87,7 +87,7 @@ class ReceiverPlan:
 
 
 class Theme(StrEnum):
-    """What a connection may meet more often."""
+    """A circumstance that a connection may meet more often."""
 
     LOSS = "loss"
     NO_SACK = "no SACK"
@@ -102,7 +102,7 @@ class Theme(StrEnum):
 
 @dataclass(frozen=True, slots=True)
 class Emphasis:
-    """What comes first in what is drawn, settings and themes, and the settings that aren't drawn."""
+    """The settings and themes that come first in what is drawn, and the settings that aren't drawn."""
 
     keys: frozenset[str] = frozenset()
     themes: frozenset[Theme] = frozenset()
@@ -110,7 +110,7 @@ class Emphasis:
 
 
 class Ending(StrEnum):
-    """What comes last, once the rest is over."""
+    """The end of a scenario, after all the rest."""
 
     NONE = "nothing"
     WAIT = "a wait"
@@ -129,5 +129,5 @@ class Scenario:
     irregular: tuple[IrregularPacket, ...]
     ending: Ending
     rounds: int
-    # What is written once nothing is outstanding: so long before or after an RTO since octets were sent last.
+    # The writes once nothing is outstanding, each so long before or after an RTO since octets were sent last.
     idle: tuple[PlannedCall, ...] = ()

@@ -22,7 +22,7 @@ _PLANS = 6
 
 @dataclass(frozen=True)
 class SearchResult:
-    """What a search came to: a find, or one that no script shows, what was reached, and how long both parts took."""
+    """The result of a search: a find, or one that no script shows, what was reached, and how long both parts took."""
 
     find: Find | None
     unshown: Find | None
@@ -33,7 +33,7 @@ class SearchResult:
 
 @dataclass(frozen=True)
 class Search:
-    """What is searched for: finds by a test, and by a second one those that their script doesn't show yet.
+    """A search for finds by a test, and by a second one for those that their script doesn't show yet.
 
     Inputs are made for so many seconds, or, where a count is given, until so many were tried however long that takes.
     A find is shrunk for so many seconds at most.

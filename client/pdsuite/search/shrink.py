@@ -18,7 +18,7 @@ _GAPS = (0, 1_000, 100_000, 200_000, 1_000_000, 10_000_000)
 _WINDOWS = (257, 32_792, 1_000)
 _SIZES = (1, 100, 1_000, 2_000, 3_000, 4_000, 5_000, 8_000, 10_000)
 _WRITE = "write"
-# What a connection is requested last: it tells one that is reset, and has what a window lets go.
+# The last call on a connection, one of these: it shows whether that is reset, and sends what a window lets go.
 _LAST = (make_call(_WRITE, 4, "...", 1_000), make_call("close", 4))
 # So many inputs without a round are tried at once.
 _AT_ONCE = 96
@@ -118,7 +118,7 @@ def _record_and_test_candidates(
 
 
 def _apply_changes(inputs: Inputs, changes: Iterable[_EventChange]) -> Inputs:
-    """The inputs after changes, of which the first of each kind counts for an event. What follows a gap moves along."""
+    """The inputs after changes, of which the first of each kind counts for an event. Events after a gap move along."""
     gone: set[int] = set()
     whats: dict[int, Packet | Call] = {}
     gaps: dict[int, int] = {}

@@ -48,7 +48,7 @@ InputSteps = Generator[Inputs, Recording, PlayedInputs]
 
 @dataclass(order=True)
 class _Due:
-    """What is due at a moment: an input, a segment for the peer, an irregular packet, or an ACK that waited."""
+    """An event due at a moment: an input, a segment for the peer, an irregular packet, or an ACK that waited."""
 
     at: int
     place: int

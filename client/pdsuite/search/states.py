@@ -1,4 +1,4 @@
-"""What a trace says of a sender: facts as numbers, and what kind of state it is in, whatever the numbers are."""
+"""The states of a sender, by its trace: facts as numbers, and the kind of a state, whatever the numbers are."""
 
 from collections.abc import Iterator, Mapping, Sequence
 from dataclasses import dataclass, field
@@ -40,7 +40,7 @@ class TracedState:
 
     @property
     def rough_kind(self) -> str:
-        """What kind of state it is: numbers count by their order and by rough sizes alone."""
+        """The kind of the state: numbers count by their order and by rough sizes alone."""
         una, top = self.fact_as_number_or_default("una"), self.fact_as_number_or_default("top")
         cwnd, flight, rwnd = (
             self.fact_as_number_or_default("cwnd"),
@@ -111,7 +111,7 @@ def state_steps_in(recording: str) -> Iterator[StateStep]:
 
 
 def _rough_event_name(it: PlayedEvent) -> str:
-    """What happened, roughly."""
+    """A rough name of the event."""
     words = it.line.split(" ")
     if words[1:2] == [">"]:
         return "leaves"

@@ -15,7 +15,7 @@ and `View` shows what changed. `SenderFollower` follows which sender stands, `Se
     a sender:         proved, or built of the sources --a source changes--> of before, rows are marked --> the next one
 
 - Rows are right when they are shown: they are those that `pdsuite run` would print of the files as they were read.
-- Events only say where to look. What counts is what is read; walks find what no event reported.
+- Events only say where to look. Nothing counts but what is read; walks find what no event reported.
 - A file that is being written isn't taken: a save that replaces a file is no removal.
 - A row is shown only of a program whose file is the one that was started (SenderChangedError).
 

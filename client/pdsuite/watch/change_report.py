@@ -1,4 +1,4 @@
-"""What is shown while scripts are watched: at first as `pdsuite run` does, and then what changed."""
+"""The reports while scripts are watched: the first as `pdsuite run` shows it, and later ones of what changed."""
 
 from collections.abc import Iterable, Iterator, Mapping, Sequence
 from dataclasses import replace
@@ -35,7 +35,7 @@ class ChangeReport:
         return ()
 
     def time_of_day_head_if_any(self) -> StyledText:
-        """What stands before a report that isn't the first."""
+        """The head of a report that isn't the first, if it has one."""
         return StyledText()
 
     def render_changed_and_gone_rows(self, before: Outcomes, after: Outcomes, moves: Sequence[Move]) -> StyledText:
@@ -68,7 +68,7 @@ class ChangeReport:
         return StyledText([(f"{_LEFT}\n  {why}\n", "dim")])
 
     def new_sender_notice(self, words: str) -> StyledText:
-        """What is shown of another sender."""
+        """The notice of another sender, in these words."""
         return StyledText([(f"{words}\n", "bold")])
 
     def refused_sender_notice(self, lines: Sequence[str]) -> StyledText:

@@ -42,7 +42,7 @@ class WatchChoice:
 
 
 class Folders:
-    """What is seen in folders, and when they have to be looked at again. Moments are those of the monotonic clock."""
+    """The files seen in folders, and when to look at these again. Moments are those of the monotonic clock."""
 
     def __init__(
         self,
@@ -73,7 +73,7 @@ class Folders:
 
     @property
     def current_suite_config(self) -> SuiteConfig:
-        """What holds for scripts, by the settings files as they are known now."""
+        """The rules of scripts, by the settings files as they are known now."""
         return self._suite
 
     def next_look_moment(self) -> float:
@@ -118,7 +118,7 @@ class Folders:
             self._busy_since = now if self._busy_since is None else self._busy_since
             self._quiet_at = min(self._busy_since + _PERIOD, now + _QUIET)
         seen = {path: self._freshly_read_file(path, closed) for path in paths if path in self.files}
-        # What is gone, or new, is only known when all has been looked at.
+        # Only a look at all there is shows which files are gone or new.
         if is_walk or len(seen) < len(paths) or any(it.is_gone for it in seen.values()):
             return self._walk_and_schedule(closed, now)
         return bool(seen) and self._apply_seen_files_returning_whether_changed({**self.files, **seen}, now)
@@ -151,7 +151,7 @@ class Folders:
         begin = process_time()
         is_other = self._reread_all_returning_whether_changed(closed, now)
         if not is_other:
-            # What is read anew takes longer, and is no measure of the next walk.
+            # A walk that reads files anew takes longer, and is no measure of the next one.
             self._period = max(_PERIOD, _TIMES * (process_time() - begin))
         self._walk_at = min(self._walk_at, now + self._period)
         return is_other

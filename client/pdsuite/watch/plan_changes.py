@@ -1,4 +1,4 @@
-"""What a change of the folders means for the runs: one function of what they hold and of what is wanted."""
+"""The changes of runs for a change of the folders: one function of what the runs hold and of what is wanted."""
 
 from collections import Counter
 from collections.abc import Iterator, Mapping, Sequence
@@ -13,7 +13,7 @@ from pdsuite.scripts.text_edit import Edit, edit_between
 
 @dataclass(frozen=True, slots=True)
 class WantedScript:
-    """What a script's file holds, and under which settings it is to run."""
+    """The text of a script's file, and the settings under which it is to run."""
 
     settings: Settings
     text: ScriptText
@@ -21,7 +21,7 @@ class WantedScript:
 
 @dataclass(frozen=True)
 class RunContents:
-    """What a run holds: its settings, and the texts of its scripts by their paths, in the order of adding."""
+    """The contents of a run: its settings, and the texts of its scripts by their paths, in the order of adding."""
 
     settings: Settings
     texts: Mapping[str, ScriptText]
@@ -55,7 +55,7 @@ Act = RemoveScript | SetKey | EditScript | AddScript
 
 @dataclass(frozen=True)
 class RunChange:
-    """What one run is to do, and what it holds then: nothing if it is to end. A run without a number is new."""
+    """The acts of one run, and what it holds after them: no script if it is to end. A run without a number is new."""
 
     run: int | None
     acts: tuple[Act, ...]
@@ -70,7 +70,7 @@ class RunChange:
 
 
 def plan_changes(runs: Sequence[RunContents], wanted: Mapping[str, WantedScript]) -> list[RunChange]:
-    """What the runs have to do to hold what is wanted: first those that are there, then new ones.
+    """The changes that make the runs hold what is wanted, first of runs that are there, then of new ones.
 
     A script stays in its run while that has its settings; any other goes to the first run with room.
     """

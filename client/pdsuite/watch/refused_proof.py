@@ -9,7 +9,7 @@ from pdsuite.file_stamps import Stamp, are_stamps_current, stamp_or_errno_of_fil
 from pdsuite.output.octets import printable_octets
 from pdsuite.scripts.text import UnfitTextError, read_regular_file_up_to_limit
 
-# What ./prove leaves where a proof is refused, and takes away when it begins.
+# The file that ./prove leaves where a proof is refused, and takes away when it begins.
 _FILE = "crates/pdregress/out/refused"
 _LONGEST = 1 << 16
 _NONE = 1  # a stamp of a file that isn't there has one number
@@ -18,7 +18,7 @@ _PLACE = re.compile(r"(?<!\S)\(?(/[^:()]+\.(?:rt|antt)):\d")
 
 
 class RefusedProof:
-    """What was refused last in a tree; what lies there at the beginning is an older proof's."""
+    """The proof that was refused last in a tree. A file that is there at the beginning is older, and isn't read."""
 
     def __init__(self, tree: Path | None) -> None:
         self._file = None if tree is None else tree / _FILE

@@ -81,12 +81,12 @@ class SenderFollower:
 
     @property
     def build_phase(self) -> str:
-        """What is built, if something is."""
+        """The phase of the build that goes on, if there is one."""
         return "" if self._building is None else f"building without proofs: {self._building.phase or 'begun'}"
 
     @property
     def build_phase_and_seconds(self) -> str:
-        """What is built, and for how long."""
+        """The phase of the build that goes on, and how long that phase has lasted."""
         return "" if self._building is None else f"{self.build_phase} {self._building.phase_seconds:.0f} s"
 
     def update_sender_returning_whether_changed(self, now: float) -> bool:
@@ -118,7 +118,7 @@ class SenderFollower:
         return now + _SECOND if self._building is not None else self._quiet_at
 
     def build_output_filenos(self) -> list[int]:
-        """What can be read once a build has something to say."""
+        """The descriptors that can be read once a build has something to say."""
         return [] if self._building is None else [self._building.fileno()]
 
     def _set_sender_clearing_reason(self, sender: LiveSender) -> None:

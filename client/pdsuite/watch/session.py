@@ -53,7 +53,7 @@ class SessionSettingsError(Exception):
 
 @dataclass(frozen=True)
 class WatchedSuite:
-    """What is watched: which scripts, the settings before all others, and against which sender."""
+    """The suite that is watched: which scripts, the settings before all others, and against which sender."""
 
     choice: WatchChoice
     option: Layer
@@ -61,7 +61,7 @@ class WatchedSuite:
 
 
 class Session:
-    """What is watched, and the runs of the sender by which rows come. It ends with `held`."""
+    """The suite that is watched, and the runs of the sender by which rows come. The session ends with `held`."""
 
     def __init__(
         self,
@@ -134,7 +134,7 @@ class Session:
             self._is_new = True
 
     def _turned_scripts_finder_if_any(self, before: LiveSender | None) -> Compare | None:
-        """What finds the scripts that the sender turned."""
+        """A function that finds the scripts that the sender turned, if there is a sender to compare it with."""
         base, sender = self._watched.base, self._sender
         if sender is None or base is None and before is None:
             return None
@@ -218,12 +218,12 @@ class Session:
 
 
 def _not_built_lines(failure: Sequence[str]) -> Sequence[str]:
-    """What is shown where no sender can be built; nothing where that isn't so."""
+    """The lines that are shown where no sender can be built; none where that isn't so."""
     return (_NO_BUILD, *failure) if failure else ()
 
 
 def _headline_of_new_sender(before: LiveSender | None, sender: LiveSender) -> str:
-    """What is shown of a sender before its first report."""
+    """The words with which the first report of a sender begins."""
     if not sender.is_proved:
         return _BUILT
     return _PROVED if before is not None and not before.is_proved else _ANOTHER
@@ -262,7 +262,7 @@ def rerun_changes_and_show(
 def _page_entries(
     outcomes: Outcomes, wanted: Mapping[str, WantedScript], causes: Mapping[str, Cause]
 ) -> "list[PageEntry]":
-    """What the page shows; of a script that passes nothing is explained there."""
+    """The entries of the page; of a script that passes nothing is explained there."""
     from pdsuite.page.view_model import PageEntry
 
     shown_causes = {path: it for path, it in causes.items() if path in outcomes and outcomes[path].row.line is not None}
@@ -275,7 +275,7 @@ def _page_entries(
 
 
 def _make_outcomes(folders: Folders, pool: LivePool, unfit: Mapping[str, str]) -> Outcomes:
-    """What came of each script, in the order of paths."""
+    """The outcome of each script, in the order of paths."""
     rows = {**dict(pool.rows()), **{path: Row(Verdict.ERROR, word=why) for path, why in unfit.items()}}
     return {path: _make_outcome(path, it.file.value, rows[path], folders) for path, it in folders.files.items()}
 

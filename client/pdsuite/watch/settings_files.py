@@ -22,7 +22,7 @@ QueryRefused = Callable[[Iterable[Claim]], list[str]]
 
 
 class SettingsFiles:
-    """What each file holds, and the layer that counts for it."""
+    """The settings files as they were read, and the layer that counts for each."""
 
     def __init__(self, option: Layer, refused: QueryRefused, note: Callable[[str], None]) -> None:
         self._option = option

@@ -1,4 +1,4 @@
-"""What a terminal shows while scripts are watched: no more than one looks through, in lines that fit."""
+"""The reports on a terminal while scripts are watched: no more than one looks through, in lines that fit."""
 
 import textwrap
 import time
@@ -101,7 +101,7 @@ class TerminalReport(ChangeReport):
 
 
 def _outcomes_at_moved_paths(before: Outcomes, moves: Sequence[Move]) -> Outcomes:
-    """What was shown, as if the scripts that moved had been where they are."""
+    """The outcomes that were shown, as if the scripts that moved had been where they are."""
     if not moves:
         return before
     new = {old: new for move in moves for old, new in move.scripts.items()}

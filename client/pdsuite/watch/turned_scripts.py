@@ -25,7 +25,7 @@ Programs = tuple[Path, Path | None]
 
 @dataclass(frozen=True)
 class ShownScripts:
-    """What was shown of scripts, and which texts and settings that is of."""
+    """The outcomes of scripts as they were shown, with the texts and settings that they are of."""
 
     outcomes: Outcomes
     wanted: Wanted
@@ -35,7 +35,7 @@ class EarlierSender(Protocol):
     """A sender with which the one that answers is compared."""
 
     def shown_or_newly_run_outcomes(self, shown: ShownScripts, now: ShownScripts) -> Outcomes:
-        """What it makes of the scripts as they are now, after something else was shown of them."""
+        """Its outcomes of the scripts as they are now: those that were shown, or those of runs of its own."""
 
     def programs(self) -> Programs | None:
         """Its programs, where they are there."""

@@ -1,4 +1,4 @@
-"""What was shown while scripts are watched, and what each report shows beside that."""
+"""The view of scripts that are watched: what was shown, and what each report shows beside that."""
 
 import time
 from collections.abc import Callable, Iterable, Iterator, Mapping, Sequence
@@ -24,7 +24,7 @@ Wanted = Mapping[str, WantedScript]
 
 
 class Explainer(Protocol):
-    """Who knows the explanations of scripts."""
+    """Knows the explanations of scripts."""
 
     def outcome_with_explanation(self, outcome: ScriptOutcome, wanted: WantedScript) -> ScriptOutcome:
         """An outcome with its explanation."""
@@ -39,7 +39,7 @@ def _check_nothing() -> None:
 
 
 class View:
-    """What was shown last."""
+    """Shows what changed, and keeps the outcomes that were shown last."""
 
     def __init__(
         self,
@@ -219,12 +219,12 @@ class View:
         self.show_progress("")
 
     def _report_head_with_sender_notice(self) -> StyledText:
-        """What stands before a report that isn't the first; of another sender what is shown of it, too."""
+        """The head of a report that isn't the first, with the notice of another sender if there is one."""
         head = self._change_report.time_of_day_head_if_any()
         return head if self._turn is None else head.append_text(self._change_report.new_sender_notice(self._turn))
 
     def _outcomes_shown_of_current_sender(self) -> Outcomes:
-        """What was shown; where a sender stands, no row of the one before counts as shown."""
+        """The outcomes that were shown; where a sender stands, no row of the one before counts as shown."""
         if not self._is_current:
             return self.outcomes
         return {path: replace(it, row=_NOT_RUN) if path in self._marked else it for path, it in self.outcomes.items()}

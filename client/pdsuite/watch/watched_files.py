@@ -38,7 +38,7 @@ WatchedFiles = Mapping[str, WatchedFile]
 
 @dataclass(frozen=True)
 class Update:
-    """What is taken of what is seen; since when paths are gone that it keeps; and which are to be read again."""
+    """The files taken of those seen; since when paths are gone that it keeps; and which are to be read again."""
 
     files: WatchedFiles
     gone: Mapping[str, float]

@@ -27,7 +27,7 @@ _BLOCKS = 16
 
 
 class FileEventKind(Enum):
-    """What happened to a name."""
+    """The kind of an event that happened to a name."""
 
     CLOSED = "its file was closed after writing, or moved there"
     GONE = "its file went"
@@ -37,7 +37,7 @@ class FileEventKind(Enum):
 
 @dataclass(frozen=True, slots=True)
 class FileEvent:
-    """What happened to a name in a folder."""
+    """An event that happened to a name in a folder."""
 
     kind: FileEventKind
     folder: str = ""
@@ -58,7 +58,7 @@ class Watcher:
         self._close_inotify()
 
     def fileno(self) -> int | None:
-        """What can be read once there are events, if there can be any."""
+        """The descriptor that can be read once there are events, if there can be any."""
         return None if self._inotify is None else self._inotify.fd
 
     def watch_folders_or_return_limit(self, folders: Iterable[str]) -> str | None:
@@ -75,7 +75,7 @@ class Watcher:
         return None
 
     def read_events(self) -> list[FileEvent]:
-        """What has happened since it was read last."""
+        """The events that came since they were read last."""
         events: list[FileEvent] = []
         if self._inotify is None:
             return events
