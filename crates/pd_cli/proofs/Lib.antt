@@ -11,6 +11,7 @@ pub mod Observed
 pub mod Written
 pub mod Settled
 pub mod Reported
+pub mod JobBlocks
 pub mod Passage
 pub mod Possible
 pub mod Counting

@@ -28,10 +28,9 @@ use Rattle.pd_cli.proofs.Written.{ok_same, StartsNone, quiet_after}
 
 -- ---- one turn
 
-pub turn_heard : {S : Type 0} (observes : S → S → FinishedJob → Type 0) (old new : S) (history : History) (o : Option JobView) (job : JobView) (done : Task) (number : ℕ) (name : List ℕ) (steps : ℕ)
-    → o ≡ Some job → handed_task o ≡ next_job history → done ≡ job.task → number ≡ done.number → name ≡ done.name → steps ≡ 0 + reuse.steps job → observes old new (record { number = number; name = name; steps = steps }) → ObservesTurn observes (Ok true) history old new
-turn_heard observes old new history o job done number name steps e f d n m s h =
-    (record { number = number; name = name; steps = steps }, (job, sym f ∙ ap handed_task e, (n ∙ ap (λ (t : Task). t.number) d, m ∙ ap (λ (t : Task). t.name) d, omega (arith, s))), h)
+pub turn_heard : {S : Type 0} (observes : S → S → FinishedJob → Type 0) (old new : S) (history : History) (o : Option JobView) (job : JobView) (done : Task) (steps : ℕ)
+    → o ≡ Some job → handed_task o ≡ next_job history → done ≡ job.task → steps ≡ 0 + reuse.steps job → observes old new (record { task = done; steps = steps }) → ObservesTurn observes (Ok true) history old new
+turn_heard observes old new history o job done steps e f d s h = (record { task = done; steps = steps }, (job, sym f ∙ ap handed_task e, (d, omega (arith, s))), h)
 
 -- ---- a settling
 
@@ -88,7 +87,7 @@ turns_numbered a b [] h = (tt, ap (λ (s : History). started s.past) h ∙ omega
 turns_numbered a b (job ∷ jobs) h =
     let rest = turns_numbered (after_turn a h.0.task) b jobs h.3 in
     let same = rest.1 in
-    ((h.2.0 ∙ number_next a h.0.task h.1, rest.0), omega (arith, same))
+    ((ap (λ (t : Task). t.number) h.2.0 ∙ number_next a h.0.task h.1, rest.0), omega (arith, same))
 
 on_ok : {V E : Type 0} (r : Result V E) (P : Type 0) → P → OnOk r P
 on_ok (Ok v) P p = p

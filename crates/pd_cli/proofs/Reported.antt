@@ -13,11 +13,11 @@ use Rattle.pd_protocol.specs.declared.program_faults.ProgramFault.TheVariants.{S
 use Rattle.pd_protocol.specs.declared.faults.ServeFault.TheVariants.{OutOfMemory}
 use Rattle.pd_protocol.proofs.Writing.{says_front, says_then}
 use Rattle.pd_protocol.proofs.Known.{appends_none}
-use Rattle.pd_cli.specs.ExplanationBlocks.{MayExplainScript, is_selected_or_none_selected}
+use Rattle.pd_cli.specs.ExplanationBlocks.{IsBlockOf, Explains, is_selected_or_none_selected, verdict_of_task}
 use Rattle.pd_cli.specs.Program.{Runs, status_of, stderr_of, Finishes}
 use Rattle.pd_cli.specs.StepLines.{FinishedJob, AreNumbered, step_line, step_lines}
 use Rattle.pd_cli.specs.Observed.{ObservesAll, WritesMore}
-use Rattle.pd_cli.specs.Reported.{MayExplain, MayReport, AreReported, NothingIsReported, StepsAreReported, BlocksAreReported}
+use Rattle.pd_cli.specs.Reported.{IsExplained, IsReport, ReportsJob, AreReported, AreReportedUnlessFailed, NothingIsReported, StepsAreReported, BlocksAreReported}
 use Rattle.pd_cli.proofs.Ending.{memory_runs, settings_out}
 
 -- nothing was written
@@ -45,36 +45,58 @@ looked_among only name among e h =
     let some : (length (names_of only) == 0) ≡ false = ap (λ (n : ℕ). n == 0) (length-map only (λ (each : Bor (List ℕ)). each.now)) ∙ e in
     h ∙ (any_name only name ∙ sym (ap (λ (b : Bool). b || list_any (λ (each : List ℕ). bytes_eq each name) (names_of only)) some))
 
--- a job may be reported in no octets
-explains_none : (explain : Option (List (List ℕ))) (job : FinishedJob) → MayExplain explain job []
-explains_none None job = refl
-explains_none (Some only) job = λ e. refl
+-- after a failed write nothing is reported
+still_quiet : {S N : Type 0} (observes : S → S → FinishedJob → Type 0) (old new : S) (jobs : List FinishedJob) → ObservesAll observes old new jobs → (name : S → N) (asks : S → ReportOptions) (stderr_ok : S → Bool) (content : S → Option (List ℕ))
+    → ((a b : S) (job : FinishedJob) → observes a b job → (name b ≡ name a) × (asks b ≡ asks a) × ReportsJob (asks a) (stderr_ok a) (stderr_ok b) (content a) (content b) job)
+    → stderr_ok old ≡ false → (name new ≡ name old) × (stderr_ok new ≡ false) × (content new ≡ content old)
+still_quiet observes old new [] h name asks stderr_ok content says f = (ap name h, ap stderr_ok h ∙ f, ap content h)
+still_quiet observes old new (job ∷ jobs) h name asks stderr_ok content says f =
+    let one = says old h.0 job h.1 in
+    let quiet = subst (λ (b : Bool). ReportsJob (asks old) b (stderr_ok h.0) (content old) (content h.0) job) f one.2 in
+    let rest = still_quiet observes h.0 new jobs h.2 name asks stderr_ok content says quiet.0 in
+    (rest.0 ∙ one.0, rest.1, rest.2 ∙ quiet.1)
 
-pub tells_none : (report_options : ReportOptions) (job : FinishedJob) → (stderr_ok : List ℕ) × MayReport report_options job stderr_ok
-tells_none report_options job = ((if report_options.steps then step_line job else []) ++ [], ([], refl, explains_none report_options.explain job))
-
-pub says_still : (stderr_ok : Bool) (w : Option (List ℕ)) (line : List ℕ) → stderr_ok ≡ false → WritesMore stderr_ok stderr_ok w w line
-says_still stderr_ok w line e = rw e (refl, refl)
-
-pub says_now : (before stderr_ok : Bool) (w w1 : Option (List ℕ)) (line : List ℕ) → before ≡ true → WritesTo stderr_ok w w1 line → WritesMore before stderr_ok w w1 line
-says_now before stderr_ok w w1 line e s = rw e s
+-- the next job, and those after it
+told_next : {S N : Type 0} (observes : S → S → FinishedJob → Type 0) (report_options : ReportOptions) (old new : S) (job : FinishedJob) (jobs : List FinishedJob) (h : ObservesAll observes old new (job ∷ jobs)) (name : S → N) (asks : S → ReportOptions) (stderr_ok : S → Bool) (content : S → Option (List ℕ))
+    → ((a b : S) (job : FinishedJob) → observes a b job → (name b ≡ name a) × (asks b ≡ asks a) × ReportsJob (asks a) (stderr_ok a) (stderr_ok b) (content a) (content b) job)
+    → asks old ≡ report_options → (before : List ℕ) (w : Option (List ℕ)) → WritesTo (stderr_ok old) w (content old) before
+    → ((so_far : List ℕ) → WritesTo (stderr_ok h.0) w (content h.0) so_far → (name new ≡ name h.0) × (written : List ℕ) × AreReportedUnlessFailed (stderr_ok new) report_options jobs written × WritesTo (stderr_ok new) w (content new) (so_far ++ written))
+    → (ok : Bool) → stderr_ok old ≡ ok
+    → (name new ≡ name old) × (written : List ℕ) × AreReportedUnlessFailed (stderr_ok new) report_options (job ∷ jobs) written × WritesTo (stderr_ok new) w (content new) (before ++ written)
+told_next observes report_options old new job jobs h name asks stderr_ok content says e before w s others true ok =
+    let one = says old h.0 job h.1 in
+    let said = subst (λ (b : Bool). ReportsJob (asks old) b (stderr_ok h.0) (content old) (content h.0) job) ok one.2 in
+    let first = said.0 in
+    let so_far = subst (λ (b : Bool). WritesTo b w (content old) before) ok s in
+    let rest = others (before ++ first) (says_then (stderr_ok h.0) w (content old) (content h.0) before first so_far said.2) in
+    let left = rest.2 in (
+      rest.0 ∙ one.0,
+      first ++ rest.1,
+      (job ∷ left.0, left.1, ap (λ (l : List FinishedJob). job ∷ l) left.2, (first, rest.1, refl, subst (λ (a : ReportOptions). IsReport a job first) e said.1, left.3), left.4),
+      subst (λ (l : List ℕ). WritesTo (stderr_ok new) w (content new) l) (append_assoc before first rest.1) rest.3,
+    )
+told_next observes report_options old new job jobs h name asks stderr_ok content says e before w s others false failed =
+    let quiet = still_quiet observes old new (job ∷ jobs) h name asks stderr_ok content says failed in
+    let none : stderr_ok new ≡ true → (job ∷ jobs) ≡ [] = λ ok. let bad : false ≡ true = sym quiet.1 ∙ ok in absurd cc in
+    let same = subst (λ (b : Bool). WritesTo b w (content old) before) (failed ∙ sym quiet.1) s in
+    (quiet.0, [], ([], job ∷ jobs, refl, refl, none), subst (λ (x : Option (List ℕ)). WritesTo (stderr_ok new) w x (before ++ [])) (sym quiet.2) (subst (λ (l : List ℕ). WritesTo (stderr_ok new) w (content old) l) (sym (append-nil before)) same))
 
 -- the reports of jobs, by an observer that prints each where it is given the job
 pub told_said : {S N : Type 0} (observes : S → S → FinishedJob → Type 0) (report_options : ReportOptions) (old new : S) (jobs : List FinishedJob) → ObservesAll observes old new jobs → (name : S → N) (asks : S → ReportOptions) (stderr_ok : S → Bool) (content : S → Option (List ℕ))
-    → ((a b : S) (job : FinishedJob) → observes a b job → (name b ≡ name a) × (asks b ≡ asks a) × (one : List ℕ) × MayReport (asks a) job one × WritesMore (stderr_ok a) (stderr_ok b) (content a) (content b) one)
+    → ((a b : S) (job : FinishedJob) → observes a b job → (name b ≡ name a) × (asks b ≡ asks a) × ReportsJob (asks a) (stderr_ok a) (stderr_ok b) (content a) (content b) job)
     → asks old ≡ report_options → (before : List ℕ) (w : Option (List ℕ)) → WritesTo (stderr_ok old) w (content old) before
-    → (name new ≡ name old) × (written : List ℕ) × AreReported report_options jobs written × WritesTo (stderr_ok new) w (content new) (before ++ written)
+    → (name new ≡ name old) × (written : List ℕ) × AreReportedUnlessFailed (stderr_ok new) report_options jobs written × WritesTo (stderr_ok new) w (content new) (before ++ written)
 told_said {S = S} observes report_options old new [] h name asks stderr_ok content says e before w s =
-    (ap name h, [], refl, subst (λ (x : S). WritesTo (stderr_ok x) w (content x) (before ++ [])) (sym h) (subst (λ (l : List ℕ). WritesTo (stderr_ok old) w (content old) l) (sym (append-nil before)) s))
+    (ap name h, [], ([], [], refl, refl, λ ok. refl), subst (λ (x : S). WritesTo (stderr_ok x) w (content x) (before ++ [])) (sym h) (subst (λ (l : List ℕ). WritesTo (stderr_ok old) w (content old) l) (sym (append-nil before)) s))
 told_said observes report_options old new (job ∷ jobs) h name asks stderr_ok content says e before w s =
-    let one = says old h.0 job h.1 in
-    let first = one.2 in
-    let rest = told_said observes report_options h.0 new jobs h.2 name asks stderr_ok content says (one.1 ∙ e) (before ++ first) w (says_more (stderr_ok old) (stderr_ok h.0) w (content old) (content h.0) before first s one.4) in (
-      rest.0 ∙ one.0,
-      first ++ rest.1,
-      (first, rest.1, refl, subst (λ (a : ReportOptions). MayReport a job first) e one.3, rest.2),
-      subst (λ (l : List ℕ). WritesTo (stderr_ok new) w (content new) l) (append_assoc before first rest.1) rest.3,
-    )
+    told_next observes report_options old new job jobs h name asks stderr_ok content says e before w s
+    (λ so_far k. told_said observes report_options h.0 new jobs h.2 name asks stderr_ok content says ((says old h.0 job h.1).1 ∙ e) so_far w k) (stderr_ok old) refl
+
+pub reports_still : (report_options : ReportOptions) (stderr_ok : Bool) (w : Option (List ℕ)) (job : FinishedJob) → stderr_ok ≡ false → ReportsJob report_options stderr_ok stderr_ok w w job
+reports_still report_options stderr_ok w job e = rw e (refl, refl)
+
+pub reports_now : (report_options : ReportOptions) (before stderr_ok : Bool) (w w1 : Option (List ℕ)) (job : FinishedJob) (lines : List ℕ) → before ≡ true → IsReport report_options job lines → WritesTo stderr_ok w w1 lines → ReportsJob report_options before stderr_ok w w1 job
+reports_now report_options before stderr_ok w w1 job lines e r s = rw e (lines, r, s)
 
 -- what is reported where one thing is asked for, or nothing
 
@@ -90,20 +112,26 @@ steps_told [] octets h = h
 steps_told (job ∷ jobs) octets (first, rest, e, m, r) = joined (step_line job) first m.0 rest (step_lines jobs) octets e m.1 m.2 (steps_told jobs rest r)
 
 pub blocks_told : BlocksAreReported
-blocks_told only [] octets h = h
-blocks_told only (job ∷ jobs) octets (first, rest, e, m, r) = (first, rest, e, subst (λ (b : List ℕ). MayExplainScript only job b) (sym m.1) m.2, blocks_told only jobs rest r)
+blocks_told explaining [] octets h = h
+blocks_told explaining (job ∷ jobs) octets (first, rest, e, m, r) = (first, rest, e, subst (λ (b : List ℕ). IsBlockOf explaining job.task b) (sym m.1) m.2, blocks_told explaining jobs rest r)
 
 -- the end of a run
 
+reported_end : (before after : Bool) (report_options : ReportOptions) (jobs : List FinishedJob) (written line : List ℕ) (w w1 : Option (List ℕ)) → WritesMore before after w w1 line → AreReportedUnlessFailed before report_options jobs written → AreReportedUnlessFailed after report_options jobs written
+reported_end true after report_options jobs written line w w1 m r = (r.0, r.1, r.2, r.3, λ ok. r.4 refl)
+reported_end false after report_options jobs written line w w1 m r =
+    let none : after ≡ true → r.1 ≡ [] = λ ok. let bad : false ≡ true = sym m.0 ∙ ok in absurd cc in
+    (r.0, r.1, r.2, r.3, none)
+
 pub tells_end : (failed : Type 0) (exit : Exit) (stderr_ok : Bool) (end : Result Bool ProgramFault) (report_options : ReportOptions) (text : List ℕ) (all out out1 err err1 err2 : Option (List ℕ)) → exit.status ≡ status_of end
-    → (jobs : List FinishedJob) × (written : List ℕ) × AreNumbered 0 jobs × AreReported report_options jobs written × WritesTo stderr_ok err err1 written
+    → (jobs : List FinishedJob) × (written : List ℕ) × AreNumbered 0 jobs × AreReportedUnlessFailed stderr_ok report_options jobs written × WritesTo stderr_ok err err1 written
     → WritesMore stderr_ok exit.stderr_ok err1 err2 (stderr_of end) → (octets : List ℕ) × Appends out out1 octets × IfSome all (Runs failed 0 (settings_in text) end octets) → Finishes failed exit 0 report_options text all out out1 err err2
-tells_end failed exit stderr_ok end report_options text all out out1 err err1 err2 e s m h = (end, e, (s.0, s.1, s.2, s.3, says_more stderr_ok exit.stderr_ok err err1 err2 s.1 (stderr_of end) s.4 m), h)
+tells_end failed exit stderr_ok end report_options text all out out1 err err1 err2 e s m h = (end, e, (s.0, s.1, s.2, reported_end stderr_ok exit.stderr_ok report_options s.0 s.1 (stderr_of end) err1 err2 m s.3, says_more stderr_ok exit.stderr_ok err err1 err2 s.1 (stderr_of end) s.4 m), h)
 
 -- no job is reported
 pub quiet_end : (failed : Type 0) (exit : Exit) (end : Result Bool ProgramFault) (workers : ℕ) (report_options : ReportOptions) (text : List ℕ) (all out out1 err err1 : Option (List ℕ)) → exit.status ≡ status_of end → WritesTo exit.stderr_ok err err1 (stderr_of end)
     → (octets : List ℕ) × Appends out out1 octets × IfSome all (Runs failed workers (settings_in text) end octets) → Finishes failed exit workers report_options text all out out1 err err1
-quiet_end failed exit end workers report_options text all out out1 err err1 e m h = (end, e, ([], [], tt, refl, m), h)
+quiet_end failed exit end workers report_options text all out out1 err err1 e m h = (end, e, ([], [], tt, ([], [], refl, refl, λ ok. refl), m), h)
 
 -- settings that are no good
 pub settings_end : (failed : Type 0) (exit : Exit) (fault : ProgramFault) (workers : ℕ) (report_options : ReportOptions) (text : List ℕ) (all out err err1 : Option (List ℕ)) → exit.status ≡ 2 → WritesTo exit.stderr_ok err err1 (fault_line (codes "pdregress") fault) → (settings_in text ≡ Err fault) ⊎ (fault ≡ Serving OutOfMemory)
@@ -112,7 +140,7 @@ settings_end failed exit fault workers report_options text all out err err1 e m 
 
 -- out of memory before anything is read
 pub memory_ends : (failed : Type 0) (exit : Exit) (workers : ℕ) (report_options : ReportOptions) (text : List ℕ) (all out err err1 : Option (List ℕ)) → exit.status ≡ 2 → WritesTo exit.stderr_ok err err1 (fault_line (codes "pdregress") (Serving OutOfMemory)) → Finishes failed exit workers report_options text all out out err err1
-memory_ends failed exit workers report_options text all out err err1 e h = (Err (Serving OutOfMemory), e, ([], [], tt, refl, h), ([], appends_none out, memory_runs failed workers (settings_in text) all))
+memory_ends failed exit workers report_options text all out err err1 e h = (Err (Serving OutOfMemory), e, ([], [], tt, ([], [], refl, refl, λ ok. refl), h), ([], appends_none out, memory_runs failed workers (settings_in text) all))
 
 -- the same run, by equal arguments
 pub finishes_by : (failed : Type 0) (exit : Exit) (n m : ℕ) (a b : ReportOptions) (t u : List ℕ) (all out out1 err err1 : Option (List ℕ)) → n ≡ m → a ≡ b → t ≡ u → Finishes failed exit n a t all out out1 err err1 → Finishes failed exit m b u all out out1 err err1

@@ -12,7 +12,7 @@ use Rattle.pd_track.specs.Reuse as reuse
 
 -- it is the job that was handed out, with the steps that its track leaves
 abbrev pub IsOfJob : JobView → FinishedJob → Type 0
-IsOfJob handed job = (job.number ≡ handed.task.number) × (job.name ≡ handed.task.name) × (job.steps ≡ reuse.steps handed)
+IsOfJob handed job = (job.task ≡ handed.task) × (job.steps ≡ reuse.steps handed)
 
 -- it is the job of the next turn of settling
 abbrev pub IsOfTurn : History → FinishedJob → Type 0

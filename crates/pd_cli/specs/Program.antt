@@ -16,7 +16,7 @@ use Rattle.pd_protocol.specs.declared.program_faults.ProgramFault.TheVariants.{S
 use Rattle.pd_cli.specs.Beside.{MayAnswer, EndsBeside}
 use Rattle.pd_cli.specs.Grammatical.{Writes}
 use Rattle.pd_cli.specs.StepLines.{FinishedJob, AreNumbered}
-use Rattle.pd_cli.specs.Reported.{AreReported}
+use Rattle.pd_cli.specs.Reported.{AreReportedUnlessFailed}
 
 -- the number of workers adds this: without any just the output of the input is written, by the grammar; beside some no
 -- settle ends for a full history
@@ -58,5 +58,5 @@ stderr_of (Err fault) = fault_line (codes "pdregress") fault
 abbrev pub Finishes : Type 0 → Exit → ℕ → ReportOptions → List ℕ → Option (List ℕ) → Option (List ℕ) → Option (List ℕ) → Option (List ℕ) → Option (List ℕ) → Type 0
 Finishes failed exit workers report_options text input out_before out_after err_before err_after =
     (end : Result Bool ProgramFault) × (exit.status ≡ status_of end)
-    × ((jobs : List FinishedJob) × (lines : List ℕ) × AreNumbered 0 jobs × AreReported report_options jobs lines × WritesTo exit.stderr_ok err_before err_after (lines ++ stderr_of end))
+    × ((jobs : List FinishedJob) × (lines : List ℕ) × AreNumbered 0 jobs × AreReportedUnlessFailed exit.stderr_ok report_options jobs lines × WritesTo exit.stderr_ok err_before err_after (lines ++ stderr_of end))
     × ((octets : List ℕ) × Appends out_before out_after octets × IfSome input (Runs failed workers (settings_in text) end octets))

@@ -1,15 +1,15 @@
 //! Why a job came to another verdict than pass, or what one that passes leaves, as a block of lines.
 ghost use Rattle.std.specs.Prelude.{◌≡◌, bytes_eq, true, false, [], IfOk};
 ghost use Rattle.std.specs.List.{list_any};
+ghost use Rattle.pd_explain.specs.BlockLines.{IsExplanationText, IsLeftoversText};
 ghost use Rattle.pd_explain.specs.Leftovers.{is_pass};
-ghost use Rattle.pd_run.specs.Run.{verdict_of};
-ghost use Rattle.pd_protocol.specs.ChosenOptions.{names_of};
-ghost use Rattle.pd_cli.specs.ExplanationBlocks.{is_selected_or_none_selected};
+ghost use Rattle.pd_protocol.specs.ChosenOptions.{explaining_of, names_of};
+ghost use Rattle.pd_cli.specs.ExplanationBlocks.{IsBlockOf, IsFailureBlock, IsPassBlock, is_selected_or_none_selected, verdict_of_task};
 
 use pd_book::Done;
 use pd_explain::{
-    explain_job_unless_pass, explanation_json, explanation_text, find_leftovers_if_passes,
-    leftovers_json, leftovers_text,
+    Explanation, Leftovers, explain_job_unless_pass, explanation_json, explanation_text,
+    find_leftovers_if_passes, leftovers_json, leftovers_text,
 };
 use pd_protocol::ExplainOptions;
 use pd_run::Verdict;
@@ -26,8 +26,7 @@ pub(crate) fn explanation_or_leftovers_if_asked(
     explain_options: &ExplainOptions<'_>,
     done: &Done,
 ) -> Result<Vec<u8>, AllocError>
-    ensures names { IfOk result (λ block. is_selected_or_none_selected (names_of explain_options.now.only.items) done.now.name ≡ false → block.items ≡ []) }
-    ensures ends { IfOk result (λ block. explain_options.now.leftovers ≡ false → is_pass (verdict_of done.now.text done.now.settings) ≡ true → block.items ≡ []) }
+    ensures { IfOk result (λ block. IsBlockOf (explaining_of explain_options.now) done.now block.items) }
 {
     if !is_selected_or_none_selected(explain_options.only.as_slice(), done.name()) {
         return Ok(Vec::new(alloc));
@@ -49,11 +48,29 @@ fn render_failure_as_json_or_text(
     alloc: Global,
     json: bool,
     done: &Done,
-) -> Result<Vec<u8>, AllocError> {
+) -> Result<Vec<u8>, AllocError>
+    requires { is_pass (verdict_of_task done.now) ≡ false }
+    ensures { IfOk result (λ block. IsFailureBlock json done.now block.items) }
+{
     match explain_job_unless_pass(alloc, done)? {
-        Some(explanation) if json => explanation_json(alloc, done.name(), &explanation),
-        Some(explanation) => explanation_text(alloc, done.name(), &explanation),
+        Some(explanation) => render_explanation(alloc, json, done.name(), &explanation),
         None => Ok(Vec::new(alloc)),
+    }
+}
+
+/// The block of an explanation, as JSON or as text.
+fn render_explanation(
+    alloc: Global,
+    json: bool,
+    name: &Name,
+    explanation: &Explanation,
+) -> Result<Vec<u8>, AllocError>
+    ensures { IfOk result (λ block. json ≡ false → IsExplanationText name.now explanation.now block.items) }
+{
+    if json {
+        explanation_json(alloc, name, explanation)
+    } else {
+        explanation_text(alloc, name, explanation)
     }
 }
 
@@ -63,15 +80,31 @@ fn render_leftovers_if_asked(
     explain_options: &ExplainOptions<'_>,
     done: &Done,
 ) -> Result<Vec<u8>, AllocError>
-    ensures { IfOk result (λ block. explain_options.now.leftovers ≡ false → block.items ≡ []) }
+    ensures silent { IfOk result (λ block. explain_options.now.leftovers ≡ false → block.items ≡ []) }
+    ensures reports { IfOk result (λ block. explain_options.now.leftovers ≡ true → IsPassBlock explain_options.now.json done.now block.items) }
 {
     if !explain_options.leftovers {
         return Ok(Vec::new(alloc));
     }
     match find_leftovers_if_passes(alloc, done.text().lines(), &done.settings())? {
-        Some(leftovers) if explain_options.json => leftovers_json(alloc, done.name(), &leftovers),
-        Some(leftovers) => leftovers_text(alloc, done.name(), &leftovers),
+        Some(leftovers) => render_leftovers(alloc, explain_options.json, done.name(), &leftovers),
         None => Ok(Vec::new(alloc)),
+    }
+}
+
+/// The block of leftovers, as JSON or as text.
+fn render_leftovers(
+    alloc: Global,
+    json: bool,
+    name: &Name,
+    leftovers: &Leftovers,
+) -> Result<Vec<u8>, AllocError>
+    ensures { IfOk result (λ block. json ≡ false → IsLeftoversText name.now leftovers.now block.items) }
+{
+    if json {
+        leftovers_json(alloc, name, leftovers)
+    } else {
+        leftovers_text(alloc, name, leftovers)
     }
 }
 

@@ -2,24 +2,25 @@
 //!
 //! `run` is the whole of `pdregress` but for its streams. `run_alone` serves its input without
 //! workers, `serve` with workers, and `serve_seat` at a seat of a desk. `render` gives the octets
-//! of a report. One loop serves: it takes a command, asks an `CommandHandler` for the reply, and writes
+//! of a report. One loop serves: it takes a command, asks a `CommandHandler` for the reply, and writes
 //! the reply.
 //!
 //! ```text
-//!     input --octets--> Intake --lines--> next_command --command--> Answerer
-//!                                          | the end                 | LocalHandler: the book; a settle
-//!                                          v                         |   starts and runs the jobs
-//!                                        a settle, the last report   | SharedHandler: a seat of the desk;
-//!                                                                    |   workers run the jobs
+//!     input --octets--> LineReader --lines--> next_command --command--> CommandHandler
+//!                                              | the end                 | LocalHandler: the book; a settle
+//!                                              v                         |   starts and runs the jobs
+//!                                            a settle, the last report   | SharedHandler: a seat of the desk;
+//!                                                                        |   workers run the jobs
 //!     output <------- nothing, the line of a refusal, or a report ---'
-//!     standard error <--- steps and reasons of each job, by the Listener of LocalHandler
+//!     standard error <--- steps and explanation of each job, by the Reporter of LocalHandler
 //!     standard error <--- the line of a fault, at which serving stops
 //! ```
 //!
 //! For any number of workers, what is written is what the commands accepted so far allow:
 //! `MayAnswer` (specs/Beside.antt). Without workers it is one function of the settings and the
-//! input: `output` (specs/Output.antt), the law
-//! `law_settle_reports_from_scratch`.
+//! input: `output` (specs/Output.antt), the law `law_settle_reports_from_scratch`. The block of a
+//! job that is explained is the text of an explanation of its verdict: `IsBlockOf`
+//! (specs/ExplanationBlocks.antt).
 //!
 //! Why it is so:
 //! - Readers, writers and the runtime are parameters. So contracts say what the whole program

@@ -16,7 +16,7 @@ pub(crate) trait JobObserver {
     /// # Errors
     /// `AllocError` where a growth for what is reported is refused.
     fn on_job_finished(&mut self, done: &Done, steps: u64) -> Result<(), AllocError>
-        ensures observed { OnOk result (observes self.old self.new (record { number = done.now.number; name = done.now.name; steps = steps })) }
+        ensures observed { OnOk result (observes self.old self.new (record { task = done.now; steps = steps })) }
         ensures same { OnErr result (self.new ≡ self.old) };
 }
 

@@ -5,7 +5,7 @@ ghost use Rattle.pd_protocol.specs.OptionTable.{pdregress, settings_text, worker
 ghost use Rattle.pd_protocol.specs.WriterOutput.{WritesTo, ExitsRefused};
 ghost use Rattle.pd_cli.specs.StepLines.{FinishedJob, AreNumbered};
 ghost use Rattle.pd_cli.specs.Observed.{WritesMore};
-ghost use Rattle.pd_cli.specs.Reported.{AreReported};
+ghost use Rattle.pd_cli.specs.Reported.{AreReportedUnlessFailed};
 ghost use Rattle.pd_cli.specs.Grammatical.{ServesAlone};
 ghost use Rattle.pd_protocol.specs.Input.{HasCause};
 ghost use Rattle.pd_cli.specs.Program.{end_of, status_of, stderr_of, Finishes};
@@ -95,7 +95,7 @@ fn serve_input_and_report_jobs_to_err<'a, R: InputStream, W: Write, E: Write>(
     requires some { 1 ≤ options.now.cache }
     requires few { options.now.cache ≤ 1024 }
     ensures same_reference { result.0.ghost_name ≡ err.entry.ghost_name }
-    ensures stderr { (jobs : List FinishedJob) × (lines : List ℕ) × AreNumbered 0 jobs × AreReported (report_options_of options.now) jobs lines × WritesTo result.1 (E.contents err.old) (E.contents result.0.now) lines }
+    ensures stderr { (jobs : List FinishedJob) × (lines : List ℕ) × AreNumbered 0 jobs × AreReportedUnlessFailed result.1 (report_options_of options.now) jobs lines × WritesTo result.1 (E.contents err.old) (E.contents result.0.now) lines }
     ensures served { ServesAlone result.2 settings (R.remaining reader.old) (W.contents out.old) (W.contents out.new) }
     ensures cause { HasCause result.2 (R.has_failed reader.new) (R.remaining reader.old) }
 {

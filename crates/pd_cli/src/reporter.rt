@@ -2,13 +2,12 @@
 ghost use Rattle.std.specs.Prelude.{◌≡◌, ◌++◌, IfOk, OnOk};
 ghost use Rattle.pd_protocol.specs.ChosenOptions.{report_options_of};
 ghost use Rattle.pd_cli.specs.StepLines.{FinishedJob, step_line};
-ghost use Rattle.pd_cli.specs.Reported.{MayReport};
+ghost use Rattle.pd_cli.specs.Reported.{IsReport};
 
 use crate::explanations::explanation_or_leftovers_if_asked;
 use crate::observer::JobObserver;
 use pd_book::Done;
 use pd_protocol::{Options, try_write};
-use pd_text::Name;
 use std::alloc::{AllocError, Global};
 use std::io::Write;
 
@@ -26,12 +25,11 @@ pub(crate) struct Reporter<'a, 'b, E> {
 }
 
 impl<'a, 'b, E: Write> JobObserver for Reporter<'a, 'b, E> {
-    ghost use Rattle.std.specs.Prelude.{◌≡◌, ℕ, List};
+    ghost use Rattle.std.specs.Prelude.{◌≡◌};
     ghost use Rattle.pd_protocol.specs.ChosenOptions.{report_options_of};
-    ghost use Rattle.pd_cli.specs.Reported.{MayReport};
-    ghost use Rattle.pd_cli.specs.Observed.{WritesMore};
+    ghost use Rattle.pd_cli.specs.Reported.{ReportsJob};
 
-    ghost observes = { λ old new job. (new.err.ghost_name ≡ old.err.ghost_name) × (report_options_of new.options.now ≡ report_options_of old.options.now) × (lines : List ℕ) × MayReport (report_options_of old.options.now) job lines × WritesMore old.stderr_ok new.stderr_ok (E.contents old.err.now) (E.contents new.err.now) lines };
+    ghost observes = { λ old new job. (new.err.ghost_name ≡ old.err.ghost_name) × (report_options_of new.options.now ≡ report_options_of old.options.now) × ReportsJob (report_options_of old.options.now) old.stderr_ok new.stderr_ok (E.contents old.err.now) (E.contents new.err.now) job };
 
     fn on_job_finished(&mut self, done: &Done, steps: u64) -> Result<(), AllocError> {
         if self.stderr_ok {
@@ -49,11 +47,11 @@ fn steps_line_and_explanation_if_asked(
     done: &Done,
     steps: u64,
 ) -> Result<Vec<u8>, AllocError>
-    ensures { IfOk result (λ lines. MayReport (report_options_of options.now) (record { number = done.now.number; name = done.now.name; steps = steps }) lines.items) }
+    ensures { IfOk result (λ lines. IsReport (report_options_of options.now) (record { task = done.now; steps = steps }) lines.items) }
 {
     let mut lines = Vec::new(alloc);
     if options.steps {
-        put_job_step_count_line(alloc, &mut lines, done.number(), done.name(), steps)?;
+        put_job_step_count_line(alloc, &mut lines, done, steps)?;
     }
     if let Some(explain_options) = &options.explain {
         let block = explanation_or_leftovers_if_asked(alloc, explain_options, done)?;
@@ -66,18 +64,17 @@ fn steps_line_and_explanation_if_asked(
 fn put_job_step_count_line(
     alloc: Global,
     out: &mut Vec<u8>,
-    number: u64,
-    name: &Name,
+    done: &Done,
     steps: u64,
 ) -> Result<(), AllocError>
-    ensures { OnOk result (out.new.items ≡ out.old.items ++ step_line (record { number = number; name = name.now; steps = steps })) }
+    ensures { OnOk result (out.new.items ≡ out.old.items ++ step_line (record { task = done.now; steps = steps })) }
 {
-    let number = number.to_string(alloc)?;
+    let number = done.number().to_string(alloc)?;
     let steps = steps.to_string(alloc)?;
     out.extend_from_slice(b"job ")?;
     out.extend_from_slice(number.as_bytes())?;
     out.extend_from_slice(b" ")?;
-    out.extend_from_slice(name.as_slice())?;
+    out.extend_from_slice(done.name().as_slice())?;
     out.extend_from_slice(b" steps ")?;
     out.extend_from_slice(steps.as_bytes())?;
     out.extend_from_slice(b"\n")

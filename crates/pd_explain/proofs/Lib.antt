@@ -6,6 +6,7 @@ pub mod ActualPacketLemmas
 pub mod WindowLemmas
 pub mod StopIsThere
 pub mod BlockLemmas
+pub mod FactLemmas
 pub mod LeftoverLemmas
 pub mod PartLemmas
 pub mod ResumedRun

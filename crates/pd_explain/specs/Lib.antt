@@ -19,6 +19,7 @@ pub mod MarkedPlace
 pub mod ForeignSyntax
 pub mod Explained
 pub mod Leftovers
+pub mod Headings
 pub mod BlockLines
 pub mod States
 pub mod Inner

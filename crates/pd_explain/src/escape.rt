@@ -1,5 +1,5 @@
 //! Octets of a script as they are shown, so that no script writes to a terminal what its reader didn't ask for.
-ghost use Rattle.std.specs.Prelude.{◌≡◌, ◌++◌, true, IfOk, OnOk};
+ghost use Rattle.std.specs.Prelude.{◌≡◌, ◌≤◌, ◌+◌, ◌-◌, ◌++◌, true, false, length, None, IfOk, OnOk};
 ghost use Rattle.pd_explain.specs.Escape.{is_printable, are_printable, hex_digit, escaped_octet, escaped};
 
 use std::alloc::{AllocError, Global};
@@ -69,7 +69,8 @@ fn put_octet_as_hex_unless_printable(out: &mut Vec<u8>, octet: u8) -> Result<(),
 /// # Errors
 /// `AllocError` where a growth is refused.
 pub(crate) fn truncated(alloc: Global, line: &[u8]) -> Result<Vec<u8>, AllocError>
-    ensures { IfOk result (λ cut. are_printable line.now ≡ true → are_printable cut.items ≡ true) }
+    ensures printable { IfOk result (λ cut. are_printable line.now ≡ true → are_printable cut.items ≡ true) }
+    ensures short { IfOk result (λ cut. length line.now ≤ 200 → cut.items ≡ line.now) }
 {
     let (cut, _) = truncated_around_mark_and_new_column(alloc, line, 0)?;
     Ok(cut)
@@ -84,7 +85,8 @@ pub(crate) fn truncated_around_mark_and_new_column(
     line: &[u8],
     mark: usize,
 ) -> Result<(Vec<u8>, usize), AllocError>
-    ensures { IfOk result (λ cut. are_printable line.now ≡ true → are_printable cut.0.items ≡ true) }
+    ensures printable { IfOk result (λ cut. are_printable line.now ≡ true → are_printable cut.0.items ≡ true) }
+    ensures short { IfOk result (λ cut. mark ≡ 0 → length line.now ≤ 200 → cut.0.items ≡ line.now) }
 {
     let start = truncation_start(line, mark);
     let end = truncation_end(line, start);
@@ -99,14 +101,16 @@ pub(crate) fn truncated_around_mark_and_new_column(
 /// Adds a part of a line.
 #[tactic(auto, using(crate::proofs::EscapeLemmas::joined))]
 fn append_given_octets(out: &mut Vec<u8>, clamped_part: &[u8]) -> Result<(), AllocError>
-    ensures { OnOk result (are_printable out.old.items ≡ true → are_printable clamped_part.now ≡ true → are_printable out.new.items ≡ true) }
+    ensures printable { OnOk result (are_printable out.old.items ≡ true → are_printable clamped_part.now ≡ true → are_printable out.new.items ≡ true) }
+    ensures octets { OnOk result (out.new.items ≡ out.old.items ++ clamped_part.now) }
 {
     out.extend_from_slice(clamped_part)
 }
 
 /// Adds what is in the place of what is cut off, if something is.
 fn put_ellipsis_if_cut(out: &mut Vec<u8>, is_cut: bool) -> Result<(), AllocError>
-    ensures { OnOk result (are_printable out.old.items ≡ true → are_printable out.new.items ≡ true) }
+    ensures printable { OnOk result (are_printable out.old.items ≡ true → are_printable out.new.items ≡ true) }
+    ensures none { OnOk result (is_cut ≡ false → out.new.items ≡ out.old.items) }
 {
     if is_cut {
         append_given_octets(out, b"..")?;
@@ -117,7 +121,9 @@ fn put_ellipsis_if_cut(out: &mut Vec<u8>, is_cut: bool) -> Result<(), AllocError
 /// The octets from a place up to another.
 #[tactic(auto, using(crate::proofs::EscapeLemmas::ranged))]
 pub(crate) fn clamped_part(line: &[u8], start: usize, end: usize) -> &[u8]
-    ensures { are_printable line.now ≡ true → are_printable result.now ≡ true }
+    ensures printable { are_printable line.now ≡ true → are_printable result.now ≡ true }
+    ensures whole { start ≡ 0 → length line.now ≤ end → result.now ≡ line.now }
+    ensures most { length result.now ≤ length line.now - start }
 {
     let end = end.min(line.len());
     let start = start.min(end);
@@ -126,7 +132,9 @@ pub(crate) fn clamped_part(line: &[u8], start: usize, end: usize) -> &[u8]
 
 /// Where what is shown of a line begins: at its begin where the mark is near, else a little before the mark, or so that it
 /// ends with the line.
-fn truncation_start(line: &[u8], mark: usize) -> usize {
+fn truncation_start(line: &[u8], mark: usize) -> usize
+    ensures { mark ≡ 0 → result ≡ 0 }
+{
     if mark < MAX_PRINTED - BEFORE_MARK / 2 {
         return 0;
     }
@@ -139,13 +147,17 @@ fn truncation_start(line: &[u8], mark: usize) -> usize {
 }
 
 /// Where what is shown from a place on ends.
-fn truncation_end(line: &[u8], start: usize) -> usize {
+fn truncation_end(line: &[u8], start: usize) -> usize
+    ensures { start ≡ 0 → length line.now ≤ 200 → result ≡ length line.now }
+{
     let end = start.saturating_add(MAX_PRINTED).min(line.len());
     find_torn_escape_start(line, end).unwrap_or(end)
 }
 
 /// Where the `\xHH` begins that a cut before an octet would tear.
-fn find_torn_escape_start(line: &[u8], at: usize) -> Option<usize> {
+fn find_torn_escape_start(line: &[u8], at: usize) -> Option<usize>
+    ensures { at ≡ length line.now → result ≡ None }
+{
     for back in 1..ESCAPED {
         if at >= back && begins_with_escape(clamped_part(line, at - back, line.len())) {
             return Some(at - back);
@@ -155,7 +167,9 @@ fn find_torn_escape_start(line: &[u8], at: usize) -> Option<usize> {
 }
 
 /// Whether a line begins with `\xHH`.
-fn begins_with_escape(line: &[u8]) -> bool {
+fn begins_with_escape(line: &[u8]) -> bool
+    ensures { result ≡ true → 4 ≤ length line.now }
+{
     match line {
         [b'\\', b'x', high, low, ..] => high.is_ascii_hexdigit() && low.is_ascii_hexdigit(),
         _ => false,

@@ -50,7 +50,7 @@ mod rule_violation;
 mod rules;
 
 pub use causes::{Cause, Failed, SenderSnapshot, cause_of_event_stop};
-pub use explain_verdict::{explain_by_rerun_unless_pass, explain_job_unless_pass};
+pub use explain_verdict::{Explanation, explain_by_rerun_unless_pass, explain_job_unless_pass};
 pub use laws::{
     law_escaped_is_printable, law_packet_has_at_most_one_origin, law_passes_iff_run_reaches_end,
     law_rules_are_named_iff_broken, law_run_passes_with_actual_packet,

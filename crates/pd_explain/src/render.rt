@@ -3,6 +3,8 @@ mod dropped_text;
 mod facts;
 mod headings;
 mod json;
+mod lines;
+mod sender_facts;
 mod text;
 
 pub use self::json::{explanation_json, leftovers_json};

@@ -1,8 +1,8 @@
 //! The arguments of the program, read by `clap`.
-ghost use Rattle.std.specs.Prelude.{bytes_eq, codes, ◌≡◌, ◌≢◌, ◌⊎◌, ◌≤◌, ◌||◌, List, [], IfOk, IfErr, IfSome, map, option_map, unwrap_or};
+ghost use Rattle.std.specs.Prelude.{bytes_eq, codes, ◌≡◌, ◌≢◌, ◌⊎◌, ◌≤◌, ◌||◌, List, [], IfOk, IfErr, map, option_map, unwrap_or};
 ghost use Rattle.clap.specs.Words.{HasMatchesOf, Text, found_of, kind_of, matched_of, raw_values};
-ghost use Rattle.pd_protocol.specs.ChosenOptions.{names_of, report_options, HasChosen};
-ghost use Rattle.pd_protocol.specs.OptionTable.{pdregress, without_sign, worker_count_or_zero, cache_size_in_range_or_64, is_option_given, has_flag, asks_json, asks_leftovers, are_in_conflict, lack_explain, refusals};
+ghost use Rattle.pd_protocol.specs.ChosenOptions.{explaining_of, names_of, report_options, HasChosen};
+ghost use Rattle.pd_protocol.specs.OptionTable.{pdregress, without_sign, worker_count_or_zero, cache_size_in_range_or_64, is_option_given, has_flag, are_in_conflict, lack_explain, refusals};
 
 use crate::numbers::parse_number;
 use crate::option_table::{command_with_conflicts, command_without_conflicts};
@@ -128,16 +128,18 @@ fn explain_options_if_flag_given<'a>(
     alloc: Global,
     matches: &ArgMatches<'a>,
 ) -> Result<Option<ExplainOptions<'a>>, AllocError>
-    ensures only { (words : List Text) → HasMatchesOf pdregress words matches.now → IfOk result (λ explain. option_map (λ e. names_of e.only.items) explain ≡ (report_options words).explain) }
-    ensures how { (words : List Text) → HasMatchesOf pdregress words matches.now → IfOk result (λ explain. IfSome explain (λ e. (e.json ≡ asks_json words) × (e.leftovers ≡ asks_leftovers words))) }
+    ensures { (words : List Text) → HasMatchesOf pdregress words matches.now → IfOk result (λ explain. option_map explaining_of explain ≡ (report_options words).explain) }
 {
     if !has_flag(matches, "explain") {
         return Ok(None);
     }
+    let only = only_names(alloc, matches)?;
+    let json = has_flag(matches, "json");
+    let leftovers = has_flag(matches, "leftovers");
     Ok(Some(ExplainOptions {
-        only: only_names(alloc, matches)?,
-        json: has_flag(matches, "json"),
-        leftovers: has_flag(matches, "leftovers"),
+        only,
+        json,
+        leftovers,
     }))
 }
 

@@ -1,16 +1,15 @@
 //! The facts of an explanation, each with its name in text and in JSON.
-ghost use Rattle.std.specs.Prelude.{◌≡◌};
-ghost use Rattle.pd_explain.specs.States.{state_word};
+ghost use Rattle.std.specs.Prelude.{◌≡◌, ◌∷◌, [], ◌++◌, codes, slice_get, Some, IfOk, OnOk};
+ghost use Rattle.pd_explain.specs.BlockLines.{failure_texts, origin_text, packet_texts};
+ghost use Rattle.pd_explain.specs.Inner.{AddsFacts, AddsNumbers, BeginsWith, fact_texts, loss_evidence_numbers, sack_evidence_numbers};
 
 use crate::causes::{
-    Cause, ExpectedTime, Failed, Failure, MissingPacket, Outlook, SenderSnapshot, TimeBackwards,
-    WrongPacket, WrongResult, applied_rto_bound, computed_rto_us_capped_at_u64,
+    Cause, ExpectedTime, Failed, Failure, MissingPacket, Outlook, TimeBackwards, WrongPacket,
+    WrongResult, applied_rto_bound, computed_rto_us_capped_at_u64,
 };
 use crate::origins::Origin;
 use crate::rules::Rule;
-use pd_host::{
-    ConnState, ConnectionSnapshot, DupAckEffect, LossEvidence, Recovery, WindowSnapshot,
-};
+use pd_host::{DupAckEffect, LossEvidence, SackEvidence};
 use pd_timer::Timeout;
 use std::alloc::{AllocError, Global};
 
@@ -48,12 +47,16 @@ use FactValue::{Moment, Nothing, Number, Octets, Packet, Words};
 pub type Facts<'a> = Vec<Fact<'a>>;
 
 /// A fact with its name in text and its key in JSON.
-pub fn named_fact<'a>(label: &'static str, key: &'static str, value: FactValue<'a>) -> Fact<'a> {
+pub fn named_fact<'a>(label: &'static str, key: &'static str, value: FactValue<'a>) -> Fact<'a>
+    ensures { result ≡ record { label = label.entry; key = key.entry; value = value.entry } }
+{
     Fact { label, key, value }
 }
 
 /// A number of a sender.
-fn number_fact<'a>(label: &'static str, key: &'static str, number: u32) -> Fact<'a> {
+pub fn number_fact<'a>(label: &'static str, key: &'static str, number: u32) -> Fact<'a>
+    ensures { result ≡ record { label = label.entry; key = key.entry; value = FactValue.Number number } }
+{
     named_fact(label, key, Number(u64::from(number)))
 }
 
@@ -61,7 +64,10 @@ fn number_fact<'a>(label: &'static str, key: &'static str, number: u32) -> Fact<
 ///
 /// # Errors
 /// `AllocError` where a growth is refused.
-pub fn facts_of_cause<'a>(alloc: Global, cause: &'a Cause) -> Result<Facts<'a>, AllocError> {
+#[tactic(auto, using(crate::proofs::FactLemmas::no_facts, crate::proofs::FactLemmas::all_facts))]
+pub fn facts_of_cause<'a>(alloc: Global, cause: &'a Cause) -> Result<Facts<'a>, AllocError>
+    ensures { IfOk result (λ facts. BeginsWith (packet_texts cause.now) (fact_texts facts.items)) }
+{
     let mut facts = Vec::new(alloc);
     match cause {
         Cause::Syntax(_) => {}
@@ -71,20 +77,21 @@ pub fn facts_of_cause<'a>(alloc: Global, cause: &'a Cause) -> Result<Facts<'a>, 
     Ok(facts)
 }
 
-fn put_failed_facts<'a>(facts: &mut Facts<'a>, failure: &'a Failure) -> Result<(), AllocError> {
+fn put_failed_facts<'a>(facts: &mut Facts<'a>, failure: &'a Failure) -> Result<(), AllocError>
+    ensures { OnOk result (AddsFacts (failure_texts failure.now.failed (slice_get failure.now.origins.items 0)) facts.old.items facts.new.items) }
+{
     match &failure.failed {
-        Failed::Packet(packets) => put_wrong_packet(
-            facts,
-            packets,
-            failure.origin_of_compared_packet_if_any(),
-        ),
+        Failed::Packet(packets) => put_wrong_packet(facts, packets, &failure.origins),
         Failed::Missing(missing_packet) => put_missing_packet(facts, missing_packet),
         Failed::Result(wrong_result) => put_wrong_result(facts, wrong_result),
         Failed::Backwards(time_backwards) => put_time_backwards(facts, time_backwards),
     }
 }
 
-fn put_rule<'a>(facts: &mut Facts<'a>, rule: Rule) -> Result<(), AllocError> {
+#[tactic(auto, using(crate::proofs::FactLemmas::any_facts, crate::proofs::FactLemmas::then_facts))]
+fn put_rule<'a>(facts: &mut Facts<'a>, rule: Rule) -> Result<(), AllocError>
+    ensures { OnOk result (AddsFacts [] facts.old.items facts.new.items) }
+{
     facts.extend_from_slice(&[
         named_fact("rule", "rule_words", Words(rule.words())),
         named_fact("", "rule", Words(rule.key())),
@@ -95,17 +102,43 @@ fn put_rule<'a>(facts: &mut Facts<'a>, rule: Rule) -> Result<(), AllocError> {
     }
 }
 
+#[tactic(auto, using(crate::proofs::FactLemmas::then_facts))]
 fn put_wrong_packet<'a>(
     facts: &mut Facts<'a>,
     packets: &'a WrongPacket,
+    origins: &[Origin],
+) -> Result<(), AllocError>
+    ensures { OnOk result (AddsFacts (failure_texts (Failed.Packet packets.now) (slice_get origins.now 0)) facts.old.items facts.new.items) }
+{
+    put_compared_packets(facts, packets, origins.first().copied())?;
+    put_unexpected_count_and_time(facts, packets)
+}
+
+/// Adds both packets, and when the actual one was sent.
+#[tactic(auto, using(crate::proofs::FactLemmas::whole_facts))]
+fn put_compared_packets<'a>(
+    facts: &mut Facts<'a>,
+    packets: &'a WrongPacket,
     origin: Option<Origin>,
-) -> Result<(), AllocError> {
+) -> Result<(), AllocError>
+    ensures { OnOk result (AddsFacts (failure_texts (Failed.Packet packets.now) origin) facts.old.items facts.new.items) }
+{
     let actual = Packet(&packets.actual, origin);
     facts.extend_from_slice(&[
         named_fact("script packet", "script_packet", Octets(&packets.script)),
         named_fact("actual packet", "actual_packet", actual),
         named_fact("", "sent_us", Moment(packets.at)),
-    ])?;
+    ])
+}
+
+/// Adds how many packets before the awaited one no line asks for, and when that one was awaited, where its time differs.
+#[tactic(auto, using(crate::proofs::FactLemmas::any_facts, crate::proofs::FactLemmas::no_facts, crate::proofs::FactLemmas::then_facts))]
+fn put_unexpected_count_and_time<'a>(
+    facts: &mut Facts<'a>,
+    packets: &'a WrongPacket,
+) -> Result<(), AllocError>
+    ensures { OnOk result (AddsFacts [] facts.old.items facts.new.items) }
+{
     if packets.unexpected > 0 {
         let count = Number(packets.unexpected as u64);
         facts.extend_from_slice(&[named_fact("", "unasked_packets", count)])?;
@@ -118,20 +151,26 @@ fn put_wrong_packet<'a>(
 
 /// Adds when a packet was awaited, and how long before that it was sent. None is sent too late: the clock is never further past
 /// the base than the tolerance, and no expiry is performed that comes later than the event's last moment and the tolerance.
+#[tactic(auto, using(crate::proofs::FactLemmas::any_facts, crate::proofs::FactLemmas::then_facts))]
 fn put_expected_time_and_earliness<'a>(
     facts: &mut Facts<'a>,
     expected_time: ExpectedTime,
     at: u64,
-) -> Result<(), AllocError> {
+) -> Result<(), AllocError>
+    ensures { OnOk result (AddsFacts [] facts.old.items facts.new.items) }
+{
     put_expected_time_range_facts(facts, expected_time)?;
     let early = expected_time.first.saturating_sub(at);
     facts.extend_from_slice(&[named_fact("early by", "early_us", Moment(early))])
 }
 
+#[tactic(auto, using(crate::proofs::FactLemmas::any_facts))]
 fn put_expected_time_range_facts<'a>(
     facts: &mut Facts<'a>,
     expected_time: ExpectedTime,
-) -> Result<(), AllocError> {
+) -> Result<(), AllocError>
+    ensures { OnOk result (AddsFacts [] facts.old.items facts.new.items) }
+{
     facts.extend_from_slice(&[
         named_fact(
             "awaited from",
@@ -147,15 +186,36 @@ fn put_expected_time_range_facts<'a>(
     ])
 }
 
+#[tactic(auto, using(crate::proofs::FactLemmas::then_facts))]
 fn put_missing_packet<'a>(
     facts: &mut Facts<'a>,
     missing_packet: &'a MissingPacket,
-) -> Result<(), AllocError> {
-    facts.extend_from_slice(&[named_fact(
-        "script packet",
-        "script_packet",
-        Octets(&missing_packet.script),
-    )])?;
+) -> Result<(), AllocError>
+    ensures { OnOk result (AddsFacts ((codes "script packet: " ++ missing_packet.now.script.items) ∷ []) facts.old.items facts.new.items) }
+{
+    put_script_packet(facts, &missing_packet.script)?;
+    put_awaited_time_and_timer(facts, missing_packet)?;
+    put_rto_estimate(facts, &missing_packet.outlook)?;
+    put_reason_not_sent(facts, missing_packet)?;
+    put_dup_ack_effect_on_recovery(facts, &missing_packet.outlook)?;
+    put_sacked(facts, &missing_packet.outlook)
+}
+
+#[tactic(auto, using(crate::proofs::FactLemmas::whole_facts))]
+fn put_script_packet<'a>(facts: &mut Facts<'a>, packet: &'a [u8]) -> Result<(), AllocError>
+    ensures { OnOk result (AddsFacts ((codes "script packet: " ++ packet.now) ∷ []) facts.old.items facts.new.items) }
+{
+    facts.extend_from_slice(&[named_fact("script packet", "script_packet", Octets(packet))])
+}
+
+/// Adds until when a packet was awaited, and when the timer expires.
+#[tactic(auto, using(crate::proofs::FactLemmas::any_facts, crate::proofs::FactLemmas::then_facts))]
+fn put_awaited_time_and_timer<'a>(
+    facts: &mut Facts<'a>,
+    missing_packet: &'a MissingPacket,
+) -> Result<(), AllocError>
+    ensures { OnOk result (AddsFacts [] facts.old.items facts.new.items) }
+{
     match missing_packet.expected_time {
         None => facts.extend_from_slice(&[named_fact(
             "awaited until",
@@ -168,18 +228,28 @@ fn put_missing_packet<'a>(
         "timer expires",
         "timer_us",
         moment_or_nothing(missing_packet.expiry, "never, it doesn't run"),
-    )])?;
-    put_rto_estimate(facts, &missing_packet.outlook)?;
+    )])
+}
+
+/// Adds why a packet wasn't sent.
+#[tactic(auto, using(crate::proofs::FactLemmas::any_facts))]
+fn put_reason_not_sent<'a>(
+    facts: &mut Facts<'a>,
+    missing_packet: &'a MissingPacket,
+) -> Result<(), AllocError>
+    ensures { OnOk result (AddsFacts [] facts.old.items facts.new.items) }
+{
     facts.extend_from_slice(&[
         named_fact("reason", "reason_words", Octets(&missing_packet.words)),
         named_fact("", "reason", Words(missing_packet.reason.key())),
-    ])?;
-    put_dup_ack_effect_on_recovery(facts, &missing_packet.outlook)?;
-    put_sacked(facts, &missing_packet.outlook)
+    ])
 }
 
 /// Adds how RTO comes about, where the timer runs and a round trip was measured.
-fn put_rto_estimate<'a>(facts: &mut Facts<'a>, outlook: &'a Outlook) -> Result<(), AllocError> {
+#[tactic(auto, using(crate::proofs::FactLemmas::any_facts, crate::proofs::FactLemmas::no_facts, crate::proofs::FactLemmas::then_facts))]
+fn put_rto_estimate<'a>(facts: &mut Facts<'a>, outlook: &'a Outlook) -> Result<(), AllocError>
+    ensures { OnOk result (AddsFacts [] facts.old.items facts.new.items) }
+{
     let words = &outlook.timeout_words;
     match outlook.timeout {
         Some(timeout) if !words.is_empty() => {
@@ -201,10 +271,13 @@ fn put_rto_estimate<'a>(facts: &mut Facts<'a>, outlook: &'a Outlook) -> Result<(
 }
 
 /// Adds the settings that move RTO.
+#[tactic(auto, using(crate::proofs::FactLemmas::any_facts, crate::proofs::FactLemmas::no_facts, crate::proofs::FactLemmas::then_facts))]
 fn put_granularity_and_rto_bound<'a>(
     facts: &mut Facts<'a>,
     timeout: Timeout,
-) -> Result<(), AllocError> {
+) -> Result<(), AllocError>
+    ensures { OnOk result (AddsFacts [] facts.old.items facts.new.items) }
+{
     if let Some(granularity_us) = timeout.granularity_us {
         facts.extend_from_slice(&[named_fact("", "granularity_us", Moment(granularity_us))])?;
     }
@@ -215,10 +288,13 @@ fn put_granularity_and_rto_bound<'a>(
 }
 
 /// Adds the effect of a duplicate, where that is reported.
+#[tactic(auto, using(crate::proofs::FactLemmas::any_facts, crate::proofs::FactLemmas::no_facts, crate::proofs::FactLemmas::then_facts))]
 fn put_dup_ack_effect_on_recovery<'a>(
     facts: &mut Facts<'a>,
     outlook: &'a Outlook,
-) -> Result<(), AllocError> {
+) -> Result<(), AllocError>
+    ensures { OnOk result (AddsFacts [] facts.old.items facts.new.items) }
+{
     let words = &outlook.duplicates_words;
     match outlook.dup_ack_effect {
         Some(dup_ack_effect) if !words.is_empty() => {
@@ -235,15 +311,40 @@ fn put_dup_ack_effect_on_recovery<'a>(
 }
 
 /// Adds what has come of what shows a loss, and how much has to come.
+#[tactic(auto, using(crate::proofs::FactLemmas::then_facts, crate::proofs::FactLemmas::then_numbers))]
 fn put_loss_evidence<'a>(
     facts: &mut Facts<'a>,
     loss_evidence: LossEvidence,
-) -> Result<(), AllocError> {
+) -> Result<(), AllocError>
+    ensures adds { OnOk result (AddsFacts [] facts.old.items facts.new.items) }
+    ensures numbers { OnOk result (AddsNumbers (loss_evidence_numbers loss_evidence) facts.old.items facts.new.items) }
+{
+    put_duplicates(facts, loss_evidence)?;
+    put_sack_evidence(facts, loss_evidence.sacked)
+}
+
+/// Adds how many duplicates came, and how many have to come.
+#[tactic(auto, using(crate::proofs::FactLemmas::any_facts, crate::proofs::FactLemmas::whole_numbers))]
+fn put_duplicates<'a>(facts: &mut Facts<'a>, loss_evidence: LossEvidence) -> Result<(), AllocError>
+    ensures adds { OnOk result (AddsFacts [] facts.old.items facts.new.items) }
+    ensures numbers { OnOk result (AddsNumbers ((codes "duplicates", Some loss_evidence.dup_acks) ∷ (codes "duplicates_needed", Some loss_evidence.needed) ∷ []) facts.old.items facts.new.items) }
+{
     facts.extend_from_slice(&[
         number_fact("", "duplicates", loss_evidence.dup_acks),
         number_fact("", "duplicates_needed", loss_evidence.needed),
-    ])?;
-    match loss_evidence.sacked {
+    ])
+}
+
+/// Adds how many octets and ranges are SACKed, and how many have to be, where SACK is in use.
+#[tactic(auto, using(crate::proofs::FactLemmas::any_facts, crate::proofs::FactLemmas::no_facts, crate::proofs::FactLemmas::whole_numbers, crate::proofs::FactLemmas::no_numbers))]
+fn put_sack_evidence<'a>(
+    facts: &mut Facts<'a>,
+    sacked: Option<SackEvidence>,
+) -> Result<(), AllocError>
+    ensures adds { OnOk result (AddsFacts [] facts.old.items facts.new.items) }
+    ensures numbers { OnOk result (AddsNumbers (sack_evidence_numbers sacked) facts.old.items facts.new.items) }
+{
+    match sacked {
         None => Ok(()),
         Some(above) => facts.extend_from_slice(&[
             number_fact("", "sacked_octets", above.octets),
@@ -255,7 +356,10 @@ fn put_loss_evidence<'a>(
 }
 
 /// Adds what is SACKed, where something is.
-fn put_sacked<'a>(facts: &mut Facts<'a>, outlook: &'a Outlook) -> Result<(), AllocError> {
+#[tactic(auto, using(crate::proofs::FactLemmas::any_facts, crate::proofs::FactLemmas::no_facts))]
+fn put_sacked<'a>(facts: &mut Facts<'a>, outlook: &'a Outlook) -> Result<(), AllocError>
+    ensures { OnOk result (AddsFacts [] facts.old.items facts.new.items) }
+{
     let words = &outlook.sacked_words;
     if words.is_empty() {
         return Ok(());
@@ -267,10 +371,13 @@ fn put_sacked<'a>(facts: &mut Facts<'a>, outlook: &'a Outlook) -> Result<(), All
     ])
 }
 
+#[tactic(auto, using(crate::proofs::FactLemmas::any_facts))]
 fn put_wrong_result<'a>(
     facts: &mut Facts<'a>,
     wrong_result: &'a WrongResult,
-) -> Result<(), AllocError> {
+) -> Result<(), AllocError>
+    ensures { OnOk result (AddsFacts [] facts.old.items facts.new.items) }
+{
     facts.extend_from_slice(&[
         named_fact("call", "call", Octets(&wrong_result.call)),
         named_fact(
@@ -286,10 +393,13 @@ fn put_wrong_result<'a>(
     ])
 }
 
+#[tactic(auto, using(crate::proofs::FactLemmas::any_facts))]
 fn put_time_backwards<'a>(
     facts: &mut Facts<'a>,
     time_backwards: &'a TimeBackwards,
-) -> Result<(), AllocError> {
+) -> Result<(), AllocError>
+    ensures { OnOk result (AddsFacts [] facts.old.items facts.new.items) }
+{
     facts.extend_from_slice(&[
         named_fact("event", "event", Octets(&time_backwards.event)),
         named_fact("its moment", "moment_us", Moment(time_backwards.time)),
@@ -298,122 +408,9 @@ fn put_time_backwards<'a>(
 }
 
 /// A moment, or nothing in these words.
-fn moment_or_nothing<'a>(time: Option<u64>, nothing: &'static str) -> FactValue<'a> {
+pub fn moment_or_nothing<'a>(time: Option<u64>, nothing: &'static str) -> FactValue<'a> {
     match time {
         Some(time) => Moment(time),
         None => Nothing(nothing),
-    }
-}
-
-/// How a sender stands, but for the name of its state.
-///
-/// # Errors
-/// `AllocError` where a growth is refused.
-pub fn facts_of_sender<'a>(
-    alloc: Global,
-    sender: &SenderSnapshot,
-) -> Result<Facts<'a>, AllocError> {
-    let mut facts = Vec::new(alloc);
-    put_sender_facts_without_state(&mut facts, sender)?;
-    Ok(facts)
-}
-
-fn put_sender_facts_without_state<'a>(
-    facts: &mut Facts<'a>,
-    sender: &SenderSnapshot,
-) -> Result<(), AllocError> {
-    let Some(connection_snapshot) = sender.connection_snapshot else {
-        return facts.extend_from_slice(&[named_fact("connection", "connection", Words("none"))]);
-    };
-    if connection_snapshot.is_reset {
-        facts.extend_from_slice(&[named_fact("connection", "connection", Words("reset"))])?;
-    }
-    put_sequence_and_windows(facts, connection_snapshot)?;
-    match connection_snapshot.windows {
-        None => put_rto_and_expiry(facts, connection_snapshot, sender.expiry),
-        Some(windows) => {
-            put_pipe_prr_and_dup_ack_counts(facts, windows)?;
-            put_rto_and_expiry(facts, connection_snapshot, sender.expiry)?;
-            let recovery = Words(recovery_rfc_name(windows.recovery));
-            facts.extend_from_slice(&[named_fact("recovery", "recovery", recovery)])
-        }
-    }
-}
-
-/// Adds the numbers of octets, the windows among them where there are any.
-fn put_sequence_and_windows<'a>(
-    facts: &mut Facts<'a>,
-    connection_snapshot: ConnectionSnapshot,
-) -> Result<(), AllocError> {
-    facts.extend_from_slice(&[
-        number_fact("una", "una", connection_snapshot.una),
-        number_fact("next", "next", connection_snapshot.next),
-        number_fact("top", "top", connection_snapshot.top),
-        number_fact("end", "end", connection_snapshot.end),
-    ])?;
-    if let Some(windows) = connection_snapshot.windows {
-        facts.extend_from_slice(&[
-            number_fact("cwnd", "cwnd", windows.cwnd),
-            number_fact("ssthresh", "ssthresh", windows.ssthresh),
-            number_fact("rwnd", "rwnd", windows.rwnd),
-        ])?;
-    }
-    let flight = connection_snapshot
-        .top
-        .saturating_sub(connection_snapshot.una);
-    facts.extend_from_slice(&[number_fact("FlightSize", "flight_size", flight)])
-}
-
-/// Adds what recovery counts.
-fn put_pipe_prr_and_dup_ack_counts<'a>(
-    facts: &mut Facts<'a>,
-    windows: WindowSnapshot,
-) -> Result<(), AllocError> {
-    if let Recovery::WithSack(pipe) = windows.recovery {
-        facts.extend_from_slice(&[number_fact("pipe", "pipe", pipe)])?;
-    }
-    if let Some(prr) = windows.prr {
-        facts.extend_from_slice(&[
-            number_fact("prr_delivered", "prr_delivered", prr.prr_delivered),
-            number_fact("prr_out", "prr_out", prr.prr_out),
-        ])?;
-    }
-    facts.extend_from_slice(&[number_fact("DupAcks", "dup_acks", windows.dup_acks)])
-}
-
-fn put_rto_and_expiry<'a>(
-    facts: &mut Facts<'a>,
-    connection_snapshot: ConnectionSnapshot,
-    expiry: Option<u64>,
-) -> Result<(), AllocError> {
-    facts.extend_from_slice(&[
-        named_fact("RTO", "rto_us", Moment(connection_snapshot.rto_us)),
-        named_fact("expiry", "expiry_us", moment_or_nothing(expiry, "none")),
-    ])
-}
-
-fn recovery_rfc_name(recovery: Recovery) -> &'static str {
-    match recovery {
-        Recovery::Idle => "none",
-        Recovery::WithSack(_) => "RFC6675",
-        Recovery::WithoutSack => "RFC5681",
-    }
-}
-
-/// The name of a state (RFC 9293, section 3.3.2).
-pub fn state_name(state: ConnState) -> &'static str
-    ensures { result.now ≡ state_word state }
-{
-    match state {
-        ConnState::Closed => "CLOSED",
-        ConnState::Listen => "LISTEN",
-        ConnState::SynReceived => "SYN-RECEIVED",
-        ConnState::Established => "ESTABLISHED",
-        ConnState::FinWait1 => "FIN-WAIT-1",
-        ConnState::FinWait2 => "FIN-WAIT-2",
-        ConnState::CloseWait => "CLOSE-WAIT",
-        ConnState::Closing => "CLOSING",
-        ConnState::LastAck => "LAST-ACK",
-        ConnState::TimeWait => "TIME-WAIT",
     }
 }

@@ -1,4 +1,7 @@
 //! The result of a row, in words.
+ghost use Rattle.std.specs.Prelude.{◌≡◌, IfOk};
+ghost use Rattle.pd_explain.specs.Headings.{verdict_name, verdict_name_with_kind, verdict_words, kind_words, unexpected_count, unexpected_words, explanation_words};
+
 use crate::causes::{Cause, Failed};
 use crate::explain_verdict::Explanation;
 use crate::leftovers::Leftovers;
@@ -7,7 +10,9 @@ use pd_run::Verdict;
 use std::alloc::{AllocError, Global};
 
 /// The name of a verdict, as in a report.
-pub fn verdict_name(verdict: Verdict) -> &'static str {
+pub fn verdict_name(verdict: Verdict) -> &'static str
+    ensures { result.now ≡ verdict_name verdict }
+{
     match verdict {
         Verdict::Pass(_) => "pass",
         Verdict::Fail(_, _) => "fail",
@@ -17,8 +22,25 @@ pub fn verdict_name(verdict: Verdict) -> &'static str {
     }
 }
 
+/// The name of a verdict, of a failure with its kind.
+///
+/// # Errors
+/// `AllocError` where a growth is refused.
+pub fn verdict_name_with_kind(alloc: Global, verdict: Verdict) -> Result<Vec<u8>, AllocError>
+    ensures { IfOk result (λ name. name.items ≡ verdict_name_with_kind verdict) }
+{
+    let mut name = Vec::from_slice(alloc, verdict_name(verdict).as_bytes())?;
+    if let Verdict::Fail(_, kind) = verdict {
+        name.extend_from_slice(b" ")?;
+        name.extend_from_slice(kind.word().as_bytes())?;
+    }
+    Ok(name)
+}
+
 /// The words of a verdict.
-fn verdict_words(verdict: Verdict) -> &'static str {
+fn verdict_words(verdict: Verdict) -> &'static str
+    ensures { result.now ≡ verdict_words verdict }
+{
     match verdict {
         Verdict::Pass(_) => "all events passed",
         Verdict::Fail(_, kind) => kind_words(kind),
@@ -28,7 +50,9 @@ fn verdict_words(verdict: Verdict) -> &'static str {
     }
 }
 
-fn kind_words(kind: Kind) -> &'static str {
+fn kind_words(kind: Kind) -> &'static str
+    ensures { result.now ≡ kind_words kind }
+{
     match kind {
         Kind::Time => "the packet was sent at another time",
         Kind::Flags => "the packet has other flags",
@@ -49,7 +73,9 @@ fn kind_words(kind: Kind) -> &'static str {
 pub fn verdict_or_unexpected_packets_words(
     alloc: Global,
     explanation: &Explanation,
-) -> Result<Vec<u8>, AllocError> {
+) -> Result<Vec<u8>, AllocError>
+    ensures { IfOk result (λ words. words.items ≡ explanation_words explanation.now) }
+{
     let count = unexpected_count_or_zero(&explanation.cause);
     let mut words = Vec::new(alloc);
     if count == 0 {
@@ -57,17 +83,26 @@ pub fn verdict_or_unexpected_packets_words(
         return Ok(words);
     }
     words.extend_from_slice(count.to_string(alloc)?.as_bytes())?;
-    words.extend_from_slice(if count == 1 {
-        b" packet before it is".as_slice()
-    } else {
-        b" packets before it are".as_slice()
-    })?;
+    words.extend_from_slice(unexpected_words(count).as_bytes())?;
     words.extend_from_slice(b" asked for by no line")?;
     Ok(words)
 }
 
+/// The words for packets that no line asks for, after their count.
+fn unexpected_words(count: usize) -> &'static str
+    ensures { result.now ≡ unexpected_words count }
+{
+    if count == 1 {
+        " packet before it is"
+    } else {
+        " packets before it are"
+    }
+}
+
 /// How many packets before the awaited one no line asks for.
-fn unexpected_count_or_zero(cause: &Cause) -> usize {
+fn unexpected_count_or_zero(cause: &Cause) -> usize
+    ensures { result ≡ unexpected_count cause.now }
+{
     match cause {
         Cause::Failed(failure) => match &failure.failed {
             Failed::Packet(packets) => packets.unexpected,

@@ -7,10 +7,9 @@ use crate::leftovers::Leftovers;
 use crate::origins::Origin;
 use crate::refusals::Refusal;
 use crate::render::dropped_text::{failed_check_key, failed_check_words};
-use crate::render::facts::{
-    Fact, FactValue, facts_of_cause, facts_of_sender, named_fact, state_name,
-};
+use crate::render::facts::{Fact, FactValue, facts_of_cause, named_fact};
 use crate::render::headings::{leftovers_words, verdict_name, verdict_or_unexpected_packets_words};
+use crate::render::sender_facts::{facts_of_sender, state_name};
 use crate::rule_violation::RuleViolation;
 use pd_run::Verdict;
 use pd_text::Name;

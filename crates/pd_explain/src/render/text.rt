@@ -1,23 +1,29 @@
 //! The block of an explanation as lines.
 ghost use Rattle.std.specs.Prelude.{◌≡◌, true, IfOk, OnOk};
 ghost use Rattle.pd_explain.specs.Escape.{are_printable};
-ghost use Rattle.pd_explain.specs.BlockLines.{AreIndented, IsBlock};
-ghost use Rattle.pd_explain.specs.Inner.{AddsLines};
+ghost use Rattle.pd_explain.specs.Headings.{IsPassHeading, explanation_words, heading, verdict_name_with_kind};
+ghost use Rattle.pd_explain.specs.BlockLines.{AreIndented, IsBlock, IsExplanationText, IsLeftoversText, ReportsTexts, packet_texts};
+ghost use Rattle.pd_explain.specs.Inner.{AddsLines, AddsReport};
 
 use crate::causes::{Cause, Failed, Failure, SenderSnapshot, Unmatched, WrongPacket};
 use crate::dropped::DroppedSegment;
-use crate::escape::{escaped, truncated, truncated_around_mark_and_new_column};
+use crate::escape::escaped;
 use crate::explain_verdict::Explanation;
 use crate::laws::law_escaped_is_printable;
 use crate::leftovers::Leftovers;
 use crate::origins::Origin;
 use crate::refusals::Refusal;
 use crate::render::dropped_text::dropped_text;
-use crate::render::facts::{Fact, FactValue, facts_of_cause, facts_of_sender, state_name};
-use crate::render::headings::{leftovers_words, verdict_name, verdict_or_unexpected_packets_words};
+use crate::render::facts::{Fact, FactValue, facts_of_cause};
+use crate::render::headings::{
+    leftovers_words, verdict_name_with_kind, verdict_or_unexpected_packets_words,
+};
+use crate::render::lines::{
+    put_fact, put_facts, put_labeled_list, put_line_with_mark, put_number,
+    put_truncated_report_line, put_value, put_whole_report_line, put_words, put_words_if_some,
+};
+use crate::render::sender_facts::{facts_of_sender, state_name};
 use crate::rule_violation::RuleViolation;
-use pd_print::render_seconds_with_six_decimals;
-use pd_run::Verdict;
 use pd_text::Name;
 use std::alloc::{AllocError, Global};
 
@@ -31,7 +37,8 @@ pub fn explanation_text(
     name: &Name,
     explanation: &Explanation,
 ) -> Result<Vec<u8>, AllocError>
-    ensures { IfOk result (λ block. IsBlock block.items) }
+    ensures block { IfOk result (λ block. IsBlock block.items) }
+    ensures explains { IfOk result (λ block. IsExplanationText name.now explanation.now block.items) }
 {
     let mut block = explanation_heading(alloc, name, explanation)?;
     block.extend_from_slice(b"\n")?;
@@ -43,13 +50,14 @@ pub fn explanation_text(
 ///
 /// # Errors
 /// `AllocError` where a growth is refused.
-#[tactic(auto, using(crate::proofs::BlockLemmas::is_block))]
+#[tactic(auto, using(crate::proofs::BlockLemmas::is_block, crate::proofs::BlockLemmas::is_leftovers_text))]
 pub fn leftovers_text(
     alloc: Global,
     name: &Name,
     leftovers: &Leftovers,
 ) -> Result<Vec<u8>, AllocError>
-    ensures { IfOk result (λ block. IsBlock block.items) }
+    ensures block { IfOk result (λ block. IsBlock block.items) }
+    ensures reports { IfOk result (λ block. IsLeftoversText name.now leftovers.now block.items) }
 {
     let mut block = leftovers_heading(alloc, name, leftovers)?;
     block.extend_from_slice(b"\n")?;
@@ -77,71 +85,90 @@ fn unmatched_and_sender_lines(alloc: Global, leftovers: &Leftovers) -> Result<Ve
 ///
 /// # Errors
 /// `AllocError` where a growth is refused.
-#[tactic(auto, using(crate::proofs::BlockLemmas::all_added))]
+#[tactic(auto, using(crate::proofs::BlockLemmas::all_added, crate::proofs::BlockLemmas::report_lines, crate::proofs::BlockLemmas::all_reported))]
 pub fn cause_text(alloc: Global, cause: &Cause) -> Result<Vec<u8>, AllocError>
-    ensures { IfOk result (λ lines. AreIndented lines.items) }
+    ensures lines { IfOk result (λ lines. AreIndented lines.items) }
+    ensures packets { IfOk result (λ lines. ReportsTexts (packet_texts cause.now) lines.items) }
 {
     let mut out = Vec::new(alloc);
     put_cause(alloc, &mut out, cause)?;
     Ok(out)
 }
 
-/// The first line.
+/// The first line of the block of an explanation.
 fn explanation_heading(
     alloc: Global,
     name: &Name,
     explanation: &Explanation,
 ) -> Result<Vec<u8>, AllocError>
-    ensures { IfOk result (λ line. are_printable line.items ≡ true) }
+    ensures printable { IfOk result (λ line. are_printable line.items ≡ true) }
+    ensures heading { IfOk result (λ line. line.items ≡ heading name.now explanation.now.line (verdict_name_with_kind explanation.now.verdict) (explanation_words explanation.now)) }
 {
-    law_escaped_is_printable();
-    let mut line = Vec::from_slice(alloc, name.as_slice())?;
-    put_line_number_and_verdict(alloc, &mut line, explanation)?;
-    line.extend_from_slice(&verdict_or_unexpected_packets_words(alloc, explanation)?)?;
-    escaped(alloc, &line)
-}
-
-/// Adds a line's number and a verdict, each after a colon, and the colon before its words.
-fn put_line_number_and_verdict(
-    alloc: Global,
-    out: &mut Vec<u8>,
-    explanation: &Explanation,
-) -> Result<(), AllocError> {
-    put_words(out, ":")?;
-    put_number(alloc, out, explanation.line as u64)?;
-    put_words(out, ": ")?;
-    put_words(out, verdict_name(explanation.verdict))?;
-    if let Verdict::Fail(_, kind) = explanation.verdict {
-        put_words(out, " ")?;
-        put_words(out, kind.word())?;
-    }
-    put_words(out, ": ")
+    let verdict = verdict_name_with_kind(alloc, explanation.verdict)?;
+    let words = verdict_or_unexpected_packets_words(alloc, explanation)?;
+    heading(alloc, name, explanation.line, &verdict, &words)
 }
 
 /// The first line of a block on a script that passes.
+#[tactic(auto, using(crate::proofs::BlockLemmas::pass_heading))]
 fn leftovers_heading(
     alloc: Global,
     name: &Name,
     leftovers: &Leftovers,
 ) -> Result<Vec<u8>, AllocError>
-    ensures { IfOk result (λ line. are_printable line.items ≡ true) }
+    ensures printable { IfOk result (λ line. are_printable line.items ≡ true) }
+    ensures heading { IfOk result (λ line. IsPassHeading name.now leftovers.now.line line.items) }
+{
+    let words = leftovers_words(alloc, leftovers)?;
+    heading(alloc, name, leftovers.line, b"pass", &words)
+}
+
+/// The first line of a block: the name of a script, a line of it, a verdict, and words, as they are shown.
+fn heading(
+    alloc: Global,
+    name: &Name,
+    line: usize,
+    verdict: &[u8],
+    words: &[u8],
+) -> Result<Vec<u8>, AllocError>
+    ensures printable { IfOk result (λ text. are_printable text.items ≡ true) }
+    ensures heading { IfOk result (λ text. text.items ≡ heading name.now line verdict.now words.now) }
 {
     law_escaped_is_printable();
-    let mut line = Vec::from_slice(alloc, name.as_slice())?;
-    put_words(&mut line, ":")?;
-    put_number(alloc, &mut line, leftovers.line as u64)?;
-    put_words(&mut line, ": pass: ")?;
-    line.extend_from_slice(&leftovers_words(alloc, leftovers)?)?;
-    escaped(alloc, &line)
+    let mut text = Vec::from_slice(alloc, name.as_slice())?;
+    put_words(&mut text, ":")?;
+    put_number(alloc, &mut text, line as u64)?;
+    put_words(&mut text, ": ")?;
+    text.extend_from_slice(verdict)?;
+    put_words(&mut text, ": ")?;
+    text.extend_from_slice(words)?;
+    escaped(alloc, &text)
 }
 
 /// Adds what is reported of a cause.
-#[tactic(auto, using(crate::proofs::BlockLemmas::then_lines))]
+#[tactic(auto, using(crate::proofs::BlockLemmas::report_between))]
 fn put_cause(alloc: Global, out: &mut Vec<u8>, cause: &Cause) -> Result<(), AllocError>
-    ensures { OnOk result (AddsLines out.old.items out.new.items) }
+    ensures { OnOk result (AddsReport (packet_texts cause.now) out.old.items out.new.items) }
 {
     put_insert_suggestions(alloc, out, cause)?;
-    put_facts(alloc, out, &facts_of_cause(alloc, cause)?)?;
+    put_facts_of_cause(alloc, out, cause)?;
+    put_rest_of_cause(alloc, out, cause)
+}
+
+/// Adds the facts of a cause.
+#[tactic(auto, using(crate::proofs::BlockLemmas::report_first))]
+fn put_facts_of_cause(alloc: Global, out: &mut Vec<u8>, cause: &Cause) -> Result<(), AllocError>
+    ensures { OnOk result (AddsReport (packet_texts cause.now) out.old.items out.new.items) }
+{
+    let facts = facts_of_cause(alloc, cause)?;
+    put_facts(alloc, out, &facts)
+}
+
+/// Adds what is reported of a cause after its facts.
+#[tactic(auto, using(crate::proofs::BlockLemmas::then_lines))]
+fn put_rest_of_cause(alloc: Global, out: &mut Vec<u8>, cause: &Cause) -> Result<(), AllocError>
+    ensures { OnOk result (AddsLines out.old.items out.new.items) }
+{
     match cause {
         Cause::Syntax(refusal) => put_refusal(alloc, out, refusal),
         Cause::Rule(violation) => put_violation(alloc, out, violation),
@@ -218,109 +245,6 @@ fn put_mend_by_inserting_lines(
         }
     }
     Ok(())
-}
-
-fn put_words(out: &mut Vec<u8>, words: &str) -> Result<(), AllocError> {
-    out.extend_from_slice(words.as_bytes())
-}
-
-fn put_number(alloc: Global, out: &mut Vec<u8>, number: u64) -> Result<(), AllocError> {
-    out.extend_from_slice(number.to_string(alloc)?.as_bytes())
-}
-
-/// Adds a line as it is shown, indented and cut.
-fn put_truncated_report_line(
-    alloc: Global,
-    out: &mut Vec<u8>,
-    line: &[u8],
-) -> Result<(), AllocError>
-    ensures { OnOk result (AddsLines out.old.items out.new.items) }
-{
-    law_escaped_is_printable();
-    let line = truncated(alloc, &escaped(alloc, line)?)?;
-    put_indented_line(out, &line)
-}
-
-/// Adds a line as it is shown, indented and not cut.
-fn put_whole_report_line(alloc: Global, out: &mut Vec<u8>, line: &[u8]) -> Result<(), AllocError>
-    ensures { OnOk result (AddsLines out.old.items out.new.items) }
-{
-    law_escaped_is_printable();
-    let line = escaped(alloc, line)?;
-    put_indented_line(out, &line)
-}
-
-/// Adds a line that is shown and cut already, indented.
-#[tactic(auto, using(crate::proofs::BlockLemmas::one_line))]
-fn put_indented_line(out: &mut Vec<u8>, line: &[u8]) -> Result<(), AllocError>
-    requires { are_printable line.now ≡ true }
-    ensures { OnOk result (AddsLines out.old.items out.new.items) }
-{
-    out.extend_from_slice(b"  ")?;
-    out.extend_from_slice(line)?;
-    out.extend_from_slice(b"\n")
-}
-
-/// Adds the lines of facts; one without a name in text has none.
-#[tactic(auto, using(crate::proofs::BlockLemmas::no_lines, crate::proofs::BlockLemmas::then_lines))]
-fn put_facts(alloc: Global, out: &mut Vec<u8>, facts: &[Fact<'_>]) -> Result<(), AllocError>
-    ensures { OnOk result (AddsLines out.old.items out.new.items) }
-{
-    for fact in facts {
-        if !fact.label.is_empty() {
-            put_fact(alloc, out, fact.label, fact.value)?;
-        }
-    }
-    Ok(())
-}
-
-/// Adds the line of a fact.
-fn put_fact(
-    alloc: Global,
-    out: &mut Vec<u8>,
-    label: &str,
-    value: FactValue<'_>,
-) -> Result<(), AllocError>
-    ensures { OnOk result (AddsLines out.old.items out.new.items) }
-{
-    let mut line = Vec::new(alloc);
-    put_words(&mut line, label)?;
-    put_words(&mut line, ": ")?;
-    put_value(alloc, &mut line, value)?;
-    put_truncated_report_line(alloc, out, &line)
-}
-
-/// Adds what is reported; octets as they are.
-fn put_value(alloc: Global, out: &mut Vec<u8>, value: FactValue<'_>) -> Result<(), AllocError> {
-    match value {
-        FactValue::Octets(octets) | FactValue::Packet(octets, None) => out.extend_from_slice(
-            octets,
-        ),
-        FactValue::Packet(octets, Some(origin)) => {
-            out.extend_from_slice(octets)?;
-            put_sent_by_line_or_timer(alloc, out, origin)
-        }
-        FactValue::Words(words) | FactValue::Nothing(words) => put_words(out, words),
-        FactValue::Moment(moment) => out.extend_from_slice(&render_seconds_with_six_decimals(
-            alloc, moment,
-        )?),
-        FactValue::Number(number) => put_number(alloc, out, number),
-    }
-}
-
-/// Adds to a packet, which ends in a comment, what let it go.
-fn put_sent_by_line_or_timer(
-    alloc: Global,
-    out: &mut Vec<u8>,
-    origin: Origin,
-) -> Result<(), AllocError> {
-    match origin {
-        Origin::Timer(_) => put_words(out, ", sent by the timer"),
-        Origin::Line(line) => {
-            put_words(out, ", sent by line ")?;
-            put_number(alloc, out, line as u64)
-        }
-    }
 }
 
 /// Adds the packets that were put out and not taken, and how the sender stands.
@@ -456,22 +380,6 @@ fn put_alternatives(
     put_labeled_list(alloc, out, "runs:", alternatives)
 }
 
-/// Adds words after a label, where there are any.
-#[tactic(auto, using(crate::proofs::BlockLemmas::no_lines))]
-fn put_words_if_some(
-    alloc: Global,
-    out: &mut Vec<u8>,
-    label: &str,
-    words: Option<&'static str>,
-) -> Result<(), AllocError>
-    ensures { OnOk result (AddsLines out.old.items out.new.items) }
-{
-    match words {
-        Some(words) => put_fact(alloc, out, label, FactValue::Words(words)),
-        None => Ok(()),
-    }
-}
-
 /// Adds the line at which no script goes on, its token marked, and what could be there.
 #[tactic(auto, using(crate::proofs::BlockLemmas::then_lines))]
 fn put_refusal(alloc: Global, out: &mut Vec<u8>, refusal: &Refusal) -> Result<(), AllocError>
@@ -492,58 +400,4 @@ fn put_refused_end_of_text(alloc: Global, out: &mut Vec<u8>, text: &[u8]) -> Res
 {
     put_truncated_report_line(alloc, out, text)?;
     put_truncated_report_line(alloc, out, b"at the end of the text")
-}
-
-/// Adds a line, and one that marks a column of it.
-#[tactic(auto, using(crate::proofs::BlockLemmas::then_lines))]
-fn put_line_with_mark(
-    alloc: Global,
-    out: &mut Vec<u8>,
-    text: &[u8],
-    column: usize,
-) -> Result<(), AllocError>
-    ensures { OnOk result (AddsLines out.old.items out.new.items) }
-{
-    let (line, column) = truncated_around_mark_and_new_column(alloc, text, column)?;
-    put_truncated_report_line(alloc, out, &line)?;
-    put_mark_line(alloc, out, column)
-}
-
-/// Adds a line that marks a column.
-fn put_mark_line(alloc: Global, out: &mut Vec<u8>, column: usize) -> Result<(), AllocError>
-    ensures { OnOk result (AddsLines out.old.items out.new.items) }
-{
-    let mut line = Vec::new(alloc);
-    line.resize(column, b' ')?;
-    line.push(b'^')?;
-    put_truncated_report_line(alloc, out, &line)
-}
-
-/// Adds words after a label, as a list in a sentence.
-fn put_labeled_list(
-    alloc: Global,
-    out: &mut Vec<u8>,
-    label: &str,
-    items: &[Vec<u8>],
-) -> Result<(), AllocError>
-    ensures { OnOk result (AddsLines out.old.items out.new.items) }
-{
-    let mut line = Vec::new(alloc);
-    put_words(&mut line, label)?;
-    for (place, words) in items.iter().enumerate() {
-        put_words(&mut line, list_separator(place, items.len()))?;
-        line.extend_from_slice(words)?;
-    }
-    put_truncated_report_line(alloc, out, &line)
-}
-
-/// The text before an item of a list of so many.
-fn list_separator(place: usize, count: usize) -> &'static str {
-    if place == 0 {
-        " "
-    } else if place.saturating_add(1) == count {
-        " or "
-    } else {
-        ", "
-    }
 }

@@ -27,5 +27,5 @@ returns-in-Err-run_job-clause-turns g c = tt
 
 pub returns-in_ok-on_job_finished-in-Ok-clause-observed : goal.returns-in_ok-on_job_finished-in-Ok-clause-observed
 returns-in_ok-on_job_finished-in-Ok-clause-observed g c =
-    turn_heard g.L.JobObserver.observes c.args.observer.now c.on_job_finished.new.self c.args.book.now.history c.in-Ok-Some.field-0 c.in-Ok-Some.job c.in-Ok.done c.in-Ok.done.number c.in-Ok.done.name c.count.result c.in-Ok-Some.field-0-is c.in-Ok-Some.ensures.job c.in-Ok.ensures.done refl refl
+    turn_heard g.L.JobObserver.observes c.args.observer.now c.on_job_finished.new.self c.args.book.now.history c.in-Ok-Some.field-0 c.in-Ok-Some.job c.in-Ok.done c.count.result c.in-Ok-Some.field-0-is c.in-Ok-Some.ensures.job c.in-Ok.ensures.done
     (c.count.ensures ∙ (c.in-Ok.ensures.steps ∙ ap (λ (n : ℕ). n + reuse.steps c.in-Ok-Some.job) c.new-stepper.ensures)) c.in_ok-on_job_finished-in-Ok.ensures.observed
