@@ -74,14 +74,14 @@ last_settled history last (does command ∷ item ∷ items) octets s (printed, r
 
 -- ---- what is written
 
-all_alone : {S : Type 0} (prints : S → Command → List ℕ → S → Type 0) (history : S → History) → IsEffect prints history → (a b : S) (items : List InputItem) (octets : List ℕ) → PrintsAll prints a items octets b → PrintsAll PrintsAlone (history a) items octets (history b)
+pub all_alone : {S : Type 0} (prints : S → Command → List ℕ → S → Type 0) (history : S → History) → IsEffect prints history → (a b : S) (items : List InputItem) (octets : List ℕ) → PrintsAll prints a items octets b → PrintsAll PrintsAlone (history a) items octets (history b)
 all_alone prints history is a b [] octets h = (h.0, ap history h.1)
 all_alone prints history is a b (stops fault ∷ items) octets h = absurd h
 all_alone prints history is a b (does command ∷ items) octets h =
     let (printed, rest, next, p, q, e) = h in
     (printed, rest, history next, is a next command printed p, all_alone prints history is next b items rest q, e)
 
-first_alone : {S : Type 0} (prints : S → Command → List ℕ → S → Type 0) (history : S → History) → IsEffect prints history → (a now : S) (items left : List InputItem) (octets : List ℕ) → PrintsFirst prints a items octets now left → PrintsFirst PrintsAlone (history a) items octets (history now) left
+pub first_alone : {S : Type 0} (prints : S → Command → List ℕ → S → Type 0) (history : S → History) → IsEffect prints history → (a now : S) (items left : List InputItem) (octets : List ℕ) → PrintsFirst prints a items octets now left → PrintsFirst PrintsAlone (history a) items octets (history now) left
 first_alone prints history is a now items left octets h = (h.0, h.1, all_alone prints history is a now h.0 octets h.2)
 
 same_scratch : (history other : History) → HaveSame history other → from_scratch history ≡ from_scratch other

@@ -1,20 +1,24 @@
 -- The reports of jobs, and the end of a run that prints them.
-use Rattle.std.proofs.Common.{◌≡◌, ◌⊎◌, ◌==◌, ◌||◌, ℕ, Bool, true, false, List, [], ◌∷◌, ◌++◌, length, bytes_eq, codes, Bor, Option, Some, None, if◌then◌else◌, Result, Err, IfSome, refl, sym, ap, subst, ◌∙◌, append_assoc, append-nil}
+use Rattle.std.proofs.Common.{◌≡◌, ◌⊎◌, ◌==◌, ◌||◌, ℕ, Bool, true, false, List, [], ◌∷◌, ◌++◌, length, bytes_eq, codes, Bor, Option, Some, None, if◌then◌else◌, Result, Ok, Err, IfSome, ◌≤◌, arith, zero, suc, refl, sym, ap, subst, ◌∙◌, append_assoc, append-nil}
 use Rattle.std.specs.Io.KnownBytes.{Appends}
 use Rattle.std.specs.List.{list_any}
 use Rattle.std.proofs.lemmas.List.{length-map}
 use Rattle.pd_protocol.specs.ChosenOptions.{ReportOptions, names_of}
+use Rattle.pd_settings.specs.declared.settings.Settings.{Settings}
+use Rattle.pd_protocol.specs.Commands.{commands}
 use Rattle.pd_protocol.specs.SettingsText.{settings_in}
 use Rattle.pd_protocol.specs.WriterOutput.{WritesTo}
 use Rattle.pd_protocol.specs.ProgramFaults.{fault_line}
 use Rattle.pd_protocol.specs.declared.exit.Exit.{Exit}
 use Rattle.pd_protocol.specs.declared.program_faults.ProgramFault.{ProgramFault}
 use Rattle.pd_protocol.specs.declared.program_faults.ProgramFault.TheVariants.{Serving}
+use Rattle.pd_protocol.specs.declared.faults.ServeFault.{ServeFault}
 use Rattle.pd_protocol.specs.declared.faults.ServeFault.TheVariants.{OutOfMemory}
 use Rattle.pd_protocol.proofs.Writing.{says_front, says_then}
 use Rattle.pd_protocol.proofs.Known.{appends_none}
 use Rattle.pd_cli.specs.ExplanationBlocks.{IsBlockOf, Explains, is_selected_or_none_selected, verdict_of_task}
-use Rattle.pd_cli.specs.Program.{Runs, status_of, stderr_of, Finishes}
+use Rattle.pd_cli.specs.Program.{Runs, end_of, status_of, stderr_of, Finishes, FinishesOutput}
+use Rattle.pd_cli.specs.StartedJobs.{AreJobsOfRun, AreStartedBy}
 use Rattle.pd_cli.specs.StepLines.{FinishedJob, AreNumbered, step_line, step_lines}
 use Rattle.pd_cli.specs.Observed.{ObservesAll, WritesMore}
 use Rattle.pd_cli.specs.Reported.{IsExplained, IsReport, ReportsJob, AreReported, AreReportedUnlessFailed, NothingIsReported, StepsAreReported, BlocksAreReported}
@@ -124,23 +128,52 @@ reported_end false after report_options jobs written line w w1 m r =
     (r.0, r.1, r.2, r.3, none)
 
 pub tells_end : (failed : Type 0) (exit : Exit) (stderr_ok : Bool) (end : Result Bool ProgramFault) (report_options : ReportOptions) (text : List ℕ) (all out out1 err err1 err2 : Option (List ℕ)) → exit.status ≡ status_of end
-    → (jobs : List FinishedJob) × (written : List ℕ) × AreNumbered 0 jobs × AreReportedUnlessFailed stderr_ok report_options jobs written × WritesTo stderr_ok err err1 written
+    → (jobs : List FinishedJob) × (written : List ℕ) × AreNumbered 0 jobs × IfSome all (AreJobsOfRun 0 (settings_in text) end jobs) × AreReportedUnlessFailed stderr_ok report_options jobs written × WritesTo stderr_ok err err1 written
     → WritesMore stderr_ok exit.stderr_ok err1 err2 (stderr_of end) → (octets : List ℕ) × Appends out out1 octets × IfSome all (Runs failed 0 (settings_in text) end octets) → Finishes failed exit 0 report_options text all out out1 err err2
-tells_end failed exit stderr_ok end report_options text all out out1 err err1 err2 e s m h = (end, e, (s.0, s.1, s.2, reported_end stderr_ok exit.stderr_ok report_options s.0 s.1 (stderr_of end) err1 err2 m s.3, says_more stderr_ok exit.stderr_ok err err1 err2 s.1 (stderr_of end) s.4 m), h)
+tells_end failed exit stderr_ok end report_options text all out out1 err err1 err2 e s m h = (end, e, (s.0, s.1, s.2, s.3, reported_end stderr_ok exit.stderr_ok report_options s.0 s.1 (stderr_of end) err1 err2 m s.4, says_more stderr_ok exit.stderr_ok err err1 err2 s.1 (stderr_of end) s.5 m), h)
+
+-- no job is started before a fault, nor with workers
+
+none_at_fault : (workers : ℕ) (settings : Result Settings ProgramFault) (fault : ProgramFault) (input : List ℕ) → AreJobsOfRun workers settings (Err fault) [] input
+none_at_fault zero (Ok settings) fault input = ([], commands input, record { opening = settings; past = [] }, [], record { opening = settings; past = [] }, ([], refl, (refl, refl)), refl, refl, tt)
+none_at_fault zero (Err other) fault input = refl
+none_at_fault (suc more) settings fault input = refl
+
+if_known : (P : List ℕ → Type 0) (all : Option (List ℕ)) → ((input : List ℕ) → P input) → IfSome all P
+if_known P None h = tt
+if_known P (Some input) h = h input
+
+none_beside : (workers : ℕ) (settings : Result Settings ProgramFault) (end : Result Bool ProgramFault) (input : List ℕ) → 1 ≤ workers → AreJobsOfRun workers settings end [] input
+none_beside zero settings end input some = absurd (omega (arith, some))
+none_beside (suc more) settings end input some = refl
+
+-- those of a run under good settings
+pub started_alone : (settings : Settings) (s : Result Settings ProgramFault) (end : Result Bool ServeFault) (jobs : List FinishedJob) (all : Option (List ℕ)) → s ≡ Ok settings → IfSome all (λ input. AreStartedBy settings end (commands input) jobs) → IfSome all (AreJobsOfRun 0 s (end_of end) jobs)
+started_alone settings s end jobs None e h = tt
+started_alone settings s (Ok passed) jobs (Some input) e h = rw e h
+started_alone settings s (Err fault) jobs (Some input) e h = rw e h
 
 -- no job is reported
-pub quiet_end : (failed : Type 0) (exit : Exit) (end : Result Bool ProgramFault) (workers : ℕ) (report_options : ReportOptions) (text : List ℕ) (all out out1 err err1 : Option (List ℕ)) → exit.status ≡ status_of end → WritesTo exit.stderr_ok err err1 (stderr_of end)
+pub quiet_end : (failed : Type 0) (exit : Exit) (end : Result Bool ProgramFault) (workers : ℕ) (report_options : ReportOptions) (text : List ℕ) (all out out1 err err1 : Option (List ℕ)) → exit.status ≡ status_of end → IfSome all (AreJobsOfRun workers (settings_in text) end []) → WritesTo exit.stderr_ok err err1 (stderr_of end)
     → (octets : List ℕ) × Appends out out1 octets × IfSome all (Runs failed workers (settings_in text) end octets) → Finishes failed exit workers report_options text all out out1 err err1
-quiet_end failed exit end workers report_options text all out out1 err err1 e m h = (end, e, ([], [], tt, ([], [], refl, refl, λ ok. refl), m), h)
+quiet_end failed exit end workers report_options text all out out1 err err1 e j m h = (end, e, ([], [], tt, j, ([], [], refl, refl, λ ok. refl), m), h)
+
+-- with workers
+pub beside_end : (failed : Type 0) (exit : Exit) (end : Result Bool ProgramFault) (workers : ℕ) (report_options : ReportOptions) (text : List ℕ) (all out out1 err err1 : Option (List ℕ)) → exit.status ≡ status_of end → 1 ≤ workers → WritesTo exit.stderr_ok err err1 (stderr_of end)
+    → (octets : List ℕ) × Appends out out1 octets × IfSome all (Runs failed workers (settings_in text) end octets) → Finishes failed exit workers report_options text all out out1 err err1
+beside_end failed exit end workers report_options text all out out1 err err1 e some m h =
+    quiet_end failed exit end workers report_options text all out out1 err err1 e (if_known (AreJobsOfRun workers (settings_in text) end []) all (λ input. none_with workers (settings_in text) end input some)) m h
 
 -- settings that are no good
 pub settings_end : (failed : Type 0) (exit : Exit) (fault : ProgramFault) (workers : ℕ) (report_options : ReportOptions) (text : List ℕ) (all out err err1 : Option (List ℕ)) → exit.status ≡ 2 → WritesTo exit.stderr_ok err err1 (fault_line (codes "pdregress") fault) → (settings_in text ≡ Err fault) ⊎ (fault ≡ Serving OutOfMemory)
     → Finishes failed exit workers report_options text all out out err err1
-settings_end failed exit fault workers report_options text all out err err1 e m h = quiet_end failed exit (Err fault) workers report_options text all out out err err1 e m ([], appends_none out, settings_out failed workers fault (settings_in text) all h)
+settings_end failed exit fault workers report_options text all out err err1 e m h =
+    quiet_end failed exit (Err fault) workers report_options text all out out err err1 e (if_known (AreJobsOfRun workers (settings_in text) (Err fault) []) all (none_at_fault workers (settings_in text) fault)) m ([], appends_none out, settings_out failed workers fault (settings_in text) all h)
 
 -- out of memory before anything is read
 pub memory_ends : (failed : Type 0) (exit : Exit) (workers : ℕ) (report_options : ReportOptions) (text : List ℕ) (all out err err1 : Option (List ℕ)) → exit.status ≡ 2 → WritesTo exit.stderr_ok err err1 (fault_line (codes "pdregress") (Serving OutOfMemory)) → Finishes failed exit workers report_options text all out out err err1
-memory_ends failed exit workers report_options text all out err err1 e h = (Err (Serving OutOfMemory), e, ([], [], tt, ([], [], refl, refl, λ ok. refl), h), ([], appends_none out, memory_runs failed workers (settings_in text) all))
+memory_ends failed exit workers report_options text all out err err1 e h =
+    quiet_end failed exit (Err (Serving OutOfMemory)) workers report_options text all out out err err1 e (if_known (AreJobsOfRun workers (settings_in text) (Err (Serving OutOfMemory)) []) all (none_at_fault workers (settings_in text) (Serving OutOfMemory))) h ([], appends_none out, memory_runs failed workers (settings_in text) all)
 
 -- the same run, by equal arguments
 pub finishes_by : (failed : Type 0) (exit : Exit) (n m : ℕ) (a b : ReportOptions) (t u : List ℕ) (all out out1 err err1 : Option (List ℕ)) → n ≡ m → a ≡ b → t ≡ u → Finishes failed exit n a t all out out1 err err1 → Finishes failed exit m b u all out out1 err err1
@@ -150,3 +183,7 @@ finishes_by failed exit n m a b t u all out out1 err err1 e f g h =
 -- what holds of a value holds of one that is the same
 pub tied : {V : Type 0} (P : V → Type 0) (a b : V) → a ≡ b → P a → P b
 tied P a b e p = subst P e p
+
+-- of a run, the output alone
+pub output_of : (failed : Type 0) (exit : Exit) (workers : ℕ) (report_options : ReportOptions) (text : List ℕ) (all out out1 err err1 : Option (List ℕ)) → Finishes failed exit workers report_options text all out out1 err err1 → FinishesOutput failed exit workers text all out out1
+output_of failed exit workers report_options text all out out1 err err1 h = (h.0, h.1, h.3)

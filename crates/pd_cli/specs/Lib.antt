@@ -11,5 +11,6 @@ pub mod Report
 pub mod Sessions
 pub mod StepLines
 pub mod Steps
+pub mod StartedJobs
 pub mod Reported
 pub mod Observed

@@ -15,6 +15,7 @@ use Rattle.pd_protocol.specs.declared.program_faults.ProgramFault.{ProgramFault}
 use Rattle.pd_protocol.specs.declared.program_faults.ProgramFault.TheVariants.{Serving}
 use Rattle.pd_cli.specs.Beside.{MayAnswer, EndsBeside}
 use Rattle.pd_cli.specs.Grammatical.{Writes}
+use Rattle.pd_cli.specs.StartedJobs.{AreJobsOfRun}
 use Rattle.pd_cli.specs.StepLines.{FinishedJob, AreNumbered}
 use Rattle.pd_cli.specs.Reported.{AreReportedUnlessFailed}
 
@@ -53,10 +54,16 @@ abbrev pub stderr_of : Result Bool ProgramFault → List ℕ
 stderr_of (Ok passed) = []
 stderr_of (Err fault) = fault_line (codes "pdregress") fault
 
--- a run with so many workers and this settings text came to an end with its status, reported some jobs as it was asked, which
+-- a run with so many workers and this settings text came to an end with its status, reported its jobs as it was asked, which
 -- are numbered from 1 on, then wrote the line of its end, and the output that belongs to it, where a read failed or none did
 abbrev pub Finishes : Type 0 → Exit → ℕ → ReportOptions → List ℕ → Option (List ℕ) → Option (List ℕ) → Option (List ℕ) → Option (List ℕ) → Option (List ℕ) → Type 0
 Finishes failed exit workers report_options text input out_before out_after err_before err_after =
     (end : Result Bool ProgramFault) × (exit.status ≡ status_of end)
-    × ((jobs : List FinishedJob) × (lines : List ℕ) × AreNumbered 0 jobs × AreReportedUnlessFailed exit.stderr_ok report_options jobs lines × WritesTo exit.stderr_ok err_before err_after (lines ++ stderr_of end))
+    × ((jobs : List FinishedJob) × (lines : List ℕ) × AreNumbered 0 jobs × IfSome input (AreJobsOfRun workers (settings_in text) end jobs) × AreReportedUnlessFailed exit.stderr_ok report_options jobs lines × WritesTo exit.stderr_ok err_before err_after (lines ++ stderr_of end))
+    × ((octets : List ℕ) × Appends out_before out_after octets × IfSome input (Runs failed workers (settings_in text) end octets))
+
+-- the same of the output alone, for who doesn't want to read what is reported of jobs
+abbrev pub FinishesOutput : Type 0 → Exit → ℕ → List ℕ → Option (List ℕ) → Option (List ℕ) → Option (List ℕ) → Type 0
+FinishesOutput failed exit workers text input out_before out_after =
+    (end : Result Bool ProgramFault) × (exit.status ≡ status_of end)
     × ((octets : List ℕ) × Appends out_before out_after octets × IfSome input (Runs failed workers (settings_in text) end octets))

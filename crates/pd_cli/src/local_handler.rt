@@ -41,6 +41,7 @@ impl<L: JobObserver> CommandHandler for LocalHandler<L> {
         self.alloc
     }
 
+    #[tactic(auto, using(crate::proofs::Observed::act_failed))]
     fn add(&mut self, name: Name, text: Option<Lines>) -> Result<Vec<u8>, ServeFault> {
         match text {
             Some(text) => empty_reply_or_refusal_line(self.alloc, self.book.add(name, text)),
@@ -48,6 +49,7 @@ impl<L: JobObserver> CommandHandler for LocalHandler<L> {
         }
     }
 
+    #[tactic(auto, using(crate::proofs::Observed::act_failed))]
     fn edit(&mut self, name: &Name, edit: Option<LineEdit>) -> Result<Vec<u8>, ServeFault> {
         match edit {
             Some(edit) => {
@@ -58,6 +60,7 @@ impl<L: JobObserver> CommandHandler for LocalHandler<L> {
         }
     }
 
+    #[tactic(auto, using(crate::proofs::Observed::act_failed))]
     fn remove(&mut self, name: &Name) -> Result<Vec<u8>, ServeFault> {
         empty_reply_or_refusal_line(self.alloc, self.book.remove(name))
     }
@@ -66,6 +69,7 @@ impl<L: JobObserver> CommandHandler for LocalHandler<L> {
         empty_reply_or_refusal_line(self.alloc, self.book.set(key.as_slice(), value))
     }
 
+    #[tactic(auto, using(crate::proofs::Observed::act_failed))]
     fn show(&mut self) -> Result<Vec<u8>, ServeFault> {
         Ok(render_report_and_whether_all_pass(self.alloc, &self.book)?.0)
     }

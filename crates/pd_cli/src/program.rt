@@ -1,14 +1,16 @@
 //! The whole program, over arguments, a reader and two writers.
-ghost use Rattle.std.specs.Prelude.{◌≡◌, ◌≢◌, ◌≤◌, ℕ, List, [], map};
+ghost use Rattle.std.specs.Prelude.{◌≡◌, ◌≢◌, ◌≤◌, ℕ, List, [], IfSome, map};
 ghost use Rattle.pd_protocol.specs.ChosenOptions.{ReportOptions, report_options, report_options_of};
 ghost use Rattle.pd_protocol.specs.OptionTable.{pdregress, settings_text, worker_count, refusals};
 ghost use Rattle.pd_protocol.specs.WriterOutput.{WritesTo, ExitsRefused};
+ghost use Rattle.pd_cli.specs.StartedJobs.{AreStartedBy};
 ghost use Rattle.pd_cli.specs.StepLines.{FinishedJob, AreNumbered};
 ghost use Rattle.pd_cli.specs.Observed.{WritesMore};
 ghost use Rattle.pd_cli.specs.Reported.{AreReportedUnlessFailed};
 ghost use Rattle.pd_cli.specs.Grammatical.{ServesAlone};
+ghost use Rattle.pd_protocol.specs.Commands.{commands};
 ghost use Rattle.pd_protocol.specs.Input.{HasCause};
-ghost use Rattle.pd_cli.specs.Program.{end_of, status_of, stderr_of, Finishes};
+ghost use Rattle.pd_cli.specs.Program.{end_of, status_of, stderr_of, Finishes, FinishesOutput};
 
 use crate::laws::law_settle_reports_from_scratch;
 use crate::local_handler::LocalHandler;
@@ -45,6 +47,9 @@ pub fn run<H: Threads + Wait + Sync, S: AsStr, R: InputStream, W: Write, E: Writ
     ensures taken { let words = map S.text words.now in
         let input = R.remaining reader.old in
         refusals words ≡ [] → Finishes (R.has_failed reader.new) result (worker_count words) (report_options words) (settings_text pdregress words) input (W.contents out.old) (W.contents out.new) (E.contents err.old) (E.contents err.new) }
+    ensures output { let words = map S.text words.now in
+        let input = R.remaining reader.old in
+        refusals words ≡ [] → FinishesOutput (R.has_failed reader.new) result (worker_count words) (settings_text pdregress words) input (W.contents out.old) (W.contents out.new) }
     ensures refused { refusals (map S.text words.now) ≢ [] → ExitsRefused result (W.contents out.old) (W.contents out.new) }
 {
     let chosen = match options(alloc, words) {
@@ -95,7 +100,7 @@ fn serve_input_and_report_jobs_to_err<'a, R: InputStream, W: Write, E: Write>(
     requires some { 1 ≤ options.now.cache }
     requires few { options.now.cache ≤ 1024 }
     ensures same_reference { result.0.ghost_name ≡ err.entry.ghost_name }
-    ensures stderr { (jobs : List FinishedJob) × (lines : List ℕ) × AreNumbered 0 jobs × AreReportedUnlessFailed result.1 (report_options_of options.now) jobs lines × WritesTo result.1 (E.contents err.old) (E.contents result.0.now) lines }
+    ensures stderr { (jobs : List FinishedJob) × (lines : List ℕ) × AreNumbered 0 jobs × IfSome (R.remaining reader.old) (λ input. AreStartedBy settings result.2 (commands input) jobs) × AreReportedUnlessFailed result.1 (report_options_of options.now) jobs lines × WritesTo result.1 (E.contents err.old) (E.contents result.0.now) lines }
     ensures served { ServesAlone result.2 settings (R.remaining reader.old) (W.contents out.old) (W.contents out.new) }
     ensures cause { HasCause result.2 (R.has_failed reader.new) (R.remaining reader.old) }
 {

@@ -1,7 +1,7 @@
 use Rattle.pd_protocol.specs.SettingsText.{settings_in}
 use Rattle.pd_cli.specs.Program.{end_of}
 use Rattle.pd_cli.proofs.Ending.{ran_beside}
-use Rattle.pd_cli.proofs.Reported.{quiet_end, settings_end}
+use Rattle.pd_cli.proofs.Reported.{beside_end, settings_end}
 use Rattle.pd_cli.proofs.program.run_beside_workers.Goals as goal
 
 pub returns-in-Ok : goal.returns-in-Ok
@@ -12,8 +12,8 @@ returns-in-Ok g c = λ report_options.
     let text = c.args.options.now.settings.now in
     let end = c.serve-end.result in
     let failed = g.R.InputStream.has_failed c.serve-end.new.reader in
-    quiet_end failed c.print_any_fault_and_make_exit.result (end_of end) c.args.options.now.workers report_options text input before after (g.E.Write.contents c.args.err.now) (g.E.Write.contents c.print_any_fault_and_make_exit.new.err)
-    c.print_any_fault_and_make_exit.ensures.status c.print_any_fault_and_make_exit.ensures.stderr (ran_beside failed c.args.options.now.workers c.in-Ok.settings (settings_in text) end input before after c.requires.some c.in-Ok.ensures.ok c.serve-end.ensures.serves c.serve-end.ensures.cause)
+    beside_end failed c.print_any_fault_and_make_exit.result (end_of end) c.args.options.now.workers report_options text input before after (g.E.Write.contents c.args.err.now) (g.E.Write.contents c.print_any_fault_and_make_exit.new.err)
+    c.print_any_fault_and_make_exit.ensures.status c.requires.some c.print_any_fault_and_make_exit.ensures.stderr (ran_beside failed c.args.options.now.workers c.in-Ok.settings (settings_in text) end input before after c.requires.some c.in-Ok.ensures.ok c.serve-end.ensures.serves c.serve-end.ensures.cause)
 
 pub returns-in-Err : goal.returns-in-Err
 returns-in-Err g c = λ report_options.
