@@ -29,7 +29,7 @@ LISTS = {
         "Book::new",
         *(f"Book::{call}.gives" for call in ("add", "edit", "remove", "set", "start", "finish", "abandon")),
     ),
-    "octets": ("pd_cli::run",),
+    "octets": ("pd_cli::run.output,refused",),
 }
 
 
@@ -51,7 +51,7 @@ class ListedPlace:  # lines of a file that define or promise something
 def read_defined_and_imported_names(path: Path, crate: str) -> Iterator[tuple[Name, "ListedPlace | Name"]]:
     file, text, owner, start = str(path.relative_to(CRATES)), path.read_text(encoding="utf-8"), "", 1
     yield from imports_of(file, crate, text)
-    for part in text.replace("pub(crate) ", "pub ").split("\n\n"):
+    for part in text.rstrip("\n").replace("pub(crate) ", "pub ").split("\n\n"):
         owner = found[1] if (found := OWNER.search(part)) else owner
         here, scopes = ListedPlace(file, start, part), {file, crate if path.suffix == ".rt" else file}
         for name in DEFINED.findall(part) + [owner] * ("    ghost Value" in part):
