@@ -8,7 +8,12 @@ import pytest
 TOP = Path(__file__).resolve().parents[1]
 sys.path.insert(0, str(TOP / "tools"))
 
-from affected_sections import AffectedParagraph, affected_paragraphs_and_unmatched_items, citations_in  # noqa: E402
+from affected_sections import (  # noqa: E402
+    AffectedParagraph,
+    affected_paragraphs_and_unmatched_items,
+    citations_in,
+    citing_paragraphs_in,
+)
 
 PAGE = """# The sender
 Before all (RFC 1, section 1)
@@ -127,6 +132,12 @@ def test_rows_of_the_table_beside_linux_are_named_too(tmp_path: Path) -> None:
     (tmp_path / "after/docs/LINUX.md").write_text(LINUX)
     found = [(it.page, it.line, it.name) for it in paragraphs_after_change(tmp_path, "reached = limit", "reached = 5")]
     assert found == [("docs/SENDER.md", *BOLD), ("docs/LINUX.md", 7, "a place")]
+
+
+def test_what_a_paragraph_cites_for_those_below_it_ends_at_the_next_heading() -> None:
+    page = f"{PAGE}\n## Three\n- Own. (Steps 3 and 4)\n\nAs RFC 3, section 6, has it.\n- Last. (Step 1)\n"
+    found = [(it.heading, str(it.cited[0])) for it in citing_paragraphs_in(page)]
+    assert found[2:] == [("Two", "RFC 2, section 5")] * 2 + [("Three", "RFC 3, section 6")] * 2
 
 
 def test_sections_steps_and_names_are_read() -> None:

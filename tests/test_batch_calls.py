@@ -8,7 +8,7 @@ import pytest
 
 from harness.batch_calls import fits_the_batch, outputs_in, length_prefixed, encode_starts
 from harness.calls import ProgramCall, ProgramOutput
-from harness.run_calls import SourceCalls, run_calls
+from harness.run_calls import SourceCalls, fits_rt_try_case, run_calls
 
 
 @pytest.mark.parametrize(
@@ -59,6 +59,11 @@ def test_outputs_up_to_the_call_that_ended_the_run() -> None:
 
 def test_calls_that_no_process_can_make_are_left() -> None:
     assert run_calls({}, [ProgramCall("pdregress", (b"a\nb",)), ProgramCall("pdrecord", (b"\xff",))]) == [None, None]
+
+
+def test_arguments_that_a_case_has_as_they_are() -> None:
+    fits = {it: fits_rt_try_case(ProgramCall("pdregress", (it,))) for it in (b"a\rb", b"{}a", b"a\r", b"a\nb", b"{}")}
+    assert [it for it, fit in fits.items() if fit] == [b"a\rb", b"{}a"]
 
 
 @pytest.mark.parametrize(

@@ -5,9 +5,16 @@ import subprocess
 import sys
 from pathlib import Path
 
+from names import ScannedText, words_to_avoid_in_prose_of
+
 TOP = Path(__file__).resolve().parents[1]
 
 
 def test_one_noun_names_one_type_and_no_private_word_is_left() -> None:
     found = subprocess.run([sys.executable, "-B", str(TOP / "tools/names.py")], capture_output=True, text=True)
     assert (found.stdout, found.stderr, found.returncode) == ("", "", 0)
+
+
+def test_a_word_to_avoid_may_begin_a_sentence() -> None:
+    found = words_to_avoid_in_prose_of([ScannedText("a.md", "So.\nTold, or `Told`.\n")], {"told": "reported"}, {})
+    assert list(found) == [("a.md:2", "Told (reported)")]

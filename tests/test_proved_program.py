@@ -172,6 +172,14 @@ def test_a_program_is_not_proved_any_more(done: str, tree: ProvedTree) -> None:
     assert not tree.is_proved()
 
 
+@pytest.mark.parametrize("path", ["crates.txt", "HANDLES", PROGRAM])
+def test_an_edit_where_a_link_leads_is_seen(path: str, tree: ProvedTree) -> None:
+    tree.run_shell(f'mv {path} own && ln -s "$PWD/own" {path}')
+    assert tree.is_proved()
+    tree.run_shell("echo '# an edit' >>own")
+    assert not tree.is_proved()
+
+
 def test_what_is_linked_is_named(tree: ProvedTree) -> None:
     tree.run_shell("mv crates/low/proofs/f elsewhere && ln -s ../../../elsewhere crates/low/proofs/f")
     message = "top isn't proved: crates/low/proofs/f is a link: put the file or folder itself there\n"

@@ -1,11 +1,13 @@
-"""Tests of what ./prove keeps: the definitions of a crate, and how long proofs take."""
+"""Tests of what ./prove keeps: the definitions of a crate, the commit of programs, and how long proofs take."""
 
 import os
+import subprocess
 from pathlib import Path
 
 import pytest
 
 import changed_rules
+import last_proved
 import proofs
 
 
@@ -32,6 +34,17 @@ def test_definitions_are_kept_beside_another_link_of_the_file(tmp_path: Path) ->
     ]
 
 
+def test_programs_are_kept_with_their_commit_also_where_that_has_a_tag(
+    tmp_path: Path, monkeypatch: pytest.MonkeyPatch
+) -> None:
+    monkeypatch.setattr(last_proved, "TOP", tmp_path)
+    own = ["git", "-C", str(tmp_path), "-c", "user.name=a", "-c", "user.email=a@b"]
+    for words in (["init", "-q"], ["commit", "-q", "--allow-empty", "-m", "one"], ["tag", "-m", "one", "v1.0"]):
+        subprocess.run([*own, *words], check=True)
+    commit = subprocess.run([*own, "rev-parse", "HEAD"], check=True, capture_output=True, text=True).stdout.strip()
+    assert last_proved.commit_hash_marked_if_dirty() == commit
+
+
 def test_a_proof_reads_what_was_written_in_each_folder(tmp_path: Path, monkeypatch: pytest.MonkeyPatch) -> None:
     monkeypatch.setattr(proofs, "TOP", tmp_path)
     crate = make_crate(tmp_path, "low")
@@ -53,3 +66,11 @@ def test_a_crate_that_changed_takes_longer(tmp_path: Path, monkeypatch: pytest.M
     later = (9_000_000_001, 9_000_000_001)
     os.utime(tmp_path / "crates/low/proofs/in/Lib.antt", later)
     assert times.expected_seconds_by_crate(uses) == {"low": 100.0, "high": 200.0, "apart": 2.0}
+
+
+def test_memory_that_the_group_of_processes_has_taken_is_not_free(monkeypatch: pytest.MonkeyPatch) -> None:
+    found = {"/proc/meminfo": 9, "/sys/fs/cgroup/memory.max": 8_192, "/sys/fs/cgroup/memory.stat": 3_072}
+    monkeypatch.setattr(proofs, "find_number_matching_pattern_in_file", lambda file, _pattern: found.get(file))
+    assert proofs.free_memory() == 5_120
+    del found["/sys/fs/cgroup/memory.max"]
+    assert proofs.free_memory() == 9_216

@@ -16,6 +16,7 @@ from harness.kinds import KINDS, read_groups
 from harness.affected import affected_rows
 from harness.random_scripts import RandomScript
 from harness.recordings import check_recordings
+from harness.rewrite import escape_octets
 
 FakeProgram = Callable[[ProgramCall], Optional[ProgramOutput]]
 EMPTY_REPORT = report_of_verdicts({})
@@ -295,6 +296,7 @@ REFUSED = "a refusal is of `$ ARGUMENTS`, `< set KEY VALUE`, or with 15 BadComma
         ("[a] refusals\nok | mss 64\n", f"2: ok | mss 64: {REFUSED}"),
         ("[a] refusals\n4 BadValue | < bye\n", f"2: 4 BadValue | < bye: {REFUSED}"),
         ("[a] scripts\n# b\n", "1: [a] scripts: a table has a row at least"),
+        ("[a] opening\n< 0\n[a] opening\n< 1\n", "3: [a] opening: an opening has this name"),
         ("[a] stories\n# b\n> c\n", "3: > c: the last story has no status"),
         (
             "[a] random rows of pdrecord\n3 by reno\n",
@@ -308,6 +310,12 @@ REFUSED = "a refusal is of `$ ARGUMENTS`, `< set KEY VALUE`, or with 15 BadComma
 def test_what_is_not_written_as_its_kind_wants_it_fails(text: str, why: str, fixture: RowFixture) -> None:
     (fault,) = fixture.faults(text, answer_as_pdregress).values()
     assert fault.endswith(why) and not fixture.calls
+
+
+def test_of_the_faults_of_a_case_three_are_shown() -> None:
+    faults = [RowResult(it) for it in "abcd"]
+    assert RowResult.join_results(faults[:3]).fault == "a\nb\nc"
+    assert RowResult.join_results(faults).fault == "a\nb\nc\nand 1 more"
 
 
 @dataclass
@@ -442,6 +450,10 @@ def test_a_row_is_affected_that_is_answered_wrongly_and_otherwise_than_before(
         [report_of_verdicts({"a1": it}) if it else None] for it in (before, after)
     ]
     assert [it.line for it in affected_rows(list(answered_tables_in(fixture.file)), *outputs)] == lines
+
+
+def test_octets_that_do_not_print_are_written_as_escapes() -> None:
+    assert escape_octets(b"\x1f ~\x7f\t\\") == "\\x1f ~\\x7f\\t\\\\"
 
 
 def test_a_row_of_another_kind_is_changed_by_hand(accepting: AcceptFixture) -> None:

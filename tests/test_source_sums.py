@@ -103,6 +103,11 @@ def test_a_kit_is_named_by_the_file_beside_the_folder_of_its_command(
         (tmp_path / command).touch(mode=0o755)
     (tmp_path / "links/rt").symlink_to(tmp_path / "kit/bin/rt")
     (tmp_path / "empty/rt").touch(mode=0o644)
-    for folders, named in ((["empty"], None), (["empty", "links", "own"], "kit-1 logic 2"), (["own", "links"], "")):
+    (tmp_path / "folder/rt").mkdir(parents=True)
+    for folders, named in (
+        (["empty", "folder"], None),
+        (["empty", "folder", "links", "own"], "kit-1 logic 2"),
+        (["own", "links"], ""),
+    ):
         monkeypatch.setenv("PATH", ":".join(str(tmp_path / it) for it in folders))
         assert kit_id_on_path() == named

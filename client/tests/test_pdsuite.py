@@ -304,10 +304,16 @@ def test_whether_a_program_is_up_to_date_is_asked_once(tmp_path: Path, fake_prog
     assert (tmp_path / "asked").read_text() == "--files\npdregress\n"
 
 
-def test_a_key_of_the_terminal_that_ends_it_while_it_asks_has_its_status(tmp_path: Path, fake_program: Path) -> None:
+IGNORING = ("sh", "-c", """trap '' INT; exec "$@" """, "sh")
+
+
+@pytest.mark.parametrize(("before", "status"), [((), 130), (IGNORING, 1)])
+def test_a_key_of_the_terminal_ends_it_while_it_asks_unless_it_is_ignored(
+    before: tuple[str, ...], status: int, tmp_path: Path, fake_program: Path
+) -> None:
     command = with_tool(tmp_path, fake_program, f'touch "{tmp_path}/mark"\nsleep 0.5')
     process = subprocess.Popen(
-        [command, "run", "suite"],
+        [*before, command, "run", "suite"],
         cwd=tmp_path,
         env=without_programs(),
         stdout=subprocess.PIPE,
@@ -319,8 +325,8 @@ def test_a_key_of_the_terminal_that_ends_it_while_it_asks_has_its_status(tmp_pat
         assert time.monotonic() < until and process.poll() is None
         time.sleep(0.01)
     os.killpg(process.pid, signal.SIGINT)
-    assert process.communicate(timeout=HANGS) == (b"", b"")
-    assert process.returncode == 130
+    out, errors = process.communicate(timeout=HANGS)
+    assert (out == b"", errors, process.returncode) == (status == 130, b"", status)
 
 
 @pytest.mark.parametrize(

@@ -18,6 +18,7 @@ make_small_tree() {
     rows unanswered '[a] refusals\nno | $ {}'
     rows unanswered_and_marked '[a] refusals\n#? taken\nno | $ {}'
     echo 'import nothing_of_this_name' >"$small/tests/cases/test_no_import.py"
+    printf 'import os\n\n\ndef test_a():\n    assert "PYTEST_XDIST_WORKER" not in os.environ\n' >"$small/tests/cases/test_no_process.py"
     printf 'import pytest\n\n\ndef test_passes():\n    pass\n\n\ndef test_exits():\n    pytest.exit("a")\n' >"$small/tests/cases/test_exits.py"
 }
 
@@ -52,6 +53,7 @@ test_rows() {
     expect harness-no-row-is-chosen-in-processes "$(printf '0 passed, 1 failed\nstatus 5')" run_rows passes.cases --programs ../../all -k none
     expect harness-the-word-of-an-option-is-no-path "$(printf '1 passed, 0 failed\nstatus 0')" run_rows runs.cases passes.cases --programs ../../one -k runs
     expect harness-without-xdist "$(printf '1 passed, 1 failed\nstatus 1')" run_alone fails.cases --programs ../../one
+    expect harness-the-number-of-processes-that-is-named "$(printf '1 passed, 0 failed\nstatus 0')" run_rows test_no_process.py --programs ../../all -n 0
     expect harness-no-file-is-there "$(printf '0 passed, 1 failed\nstatus 4')" run_rows none.cases --programs ../../one
     expect harness-unread "$(printf '1 passed, 2 failed\nstatus 1')" run_rows passes.cases no_table.cases no_text.cases --programs ../../one --continue-on-collection-errors
     expect harness-an-error-is-counted "$(printf '0 passed, 1 failed\nstatus 2')" run_rows passes.cases test_no_import.py --programs ../../one

@@ -170,11 +170,12 @@ test_proved() {
 many() { # the answers to cases: `run_cases.py` WORD..
     rm -rf "$work/cases" "$work/answers"
     mkdir "$work/cases" "$work/answers"
-    for name in a b c d; do printf '%s\n' "$name" >"$work/cases/$name"; done
+    for input in a b c d e; do printf '%s\n' "$input" >"$work/cases/$input"; done
     printf 'x y\n' >"$work/cases/a.args"
     printf 'status\n3\n' >"$work/cases/b.args"
     : >"$work/cases/c.args"
     printf 'lasts\n' >"$work/cases/d.args"
+    printf 'faults\n' >"$work/cases/e.args"
     # shellcheck disable=SC2086
     with_rt python3 -B "${from:-$build}/tools/run_cases.py" "$@" "$work/cases" "$work/answers" ${each:+-- $each} || return
     for file in "$work"/answers/*; do echo "${file##*/}: $(cat "$file")"; done
@@ -190,7 +191,8 @@ many_of_another_tree() { # PROGRAM
 
 test_cases() {
     expect cases "$(printf '%s\n' 'a.errors: an error' 'a.output: pdrecord x y octets=2' 'a.status: 0' 'b.errors: ' 'b.output: ' 'b.status: 3' \
-        'c.errors: an error' 'c.output: pdrecord  octets=2' 'c.status: 0' 'd.errors: ' 'd.output: ' "d.status: TooSlow: the program didn't end within 7 seconds"; echo status 0)" many --seconds 7 pdrecord
+        'c.errors: an error' 'c.output: pdrecord  octets=2' 'c.status: 0' 'd.errors: ' 'd.output: ' "d.status: TooSlow: the program didn't end within 7 seconds" \
+        'e.errors: an error' 'e.output: ' 'e.status: Faulted: kind=panic at=a.rt:1:2: a failed unwrap'; echo status 0)" many --seconds 7 pdrecord
     expect cases-with-words-before-their-own "$(printf '%s\n' 'a.output: pdrecord one x y octets=2' 'c.output: pdrecord one octets=2'; echo status 0)" many_with_a_word pdrecord
     mkdir "$work/other_tree"
     cp -R "$build/tools" "$work/other_tree"

@@ -16,6 +16,7 @@ make_tree() {
 }
 
 test_links() {
+    expect both-launchers-are-one-text "status 0" cmp "$top/pdregress" "$top/pdrecord"
     make_tree
     for program in pdregress pdrecord; do
         ln -s "$work/tree/$program" "$work/bin/$program"
