@@ -97,6 +97,18 @@ def test_a_run_that_was_ended_early_is_worse(report: Report, tmp_path: Path, cal
     ]
 
 
+def test_a_script_that_was_not_run_has_no_row_that_it_was(report: Report, tmp_path: Path, call: Call) -> None:
+    write(tmp_path / "suite", **{f"s{number:02}": b"row pass 9\n" for number in range(65)})
+    report("new.json", "suite")
+    write(tmp_path / "suite", s00=b"row fail 1 seq\n")
+    report("old.json", "--fail-fast", "suite")
+    called = call(None, "diff", "old.json", "new.json")
+    assert called.out.splitlines()[:2] == [
+        "suite/s00.pkt: passes again: pass 9, was fail 1 seq",
+        "suite/s64.pkt: new: pass 9",
+    ]
+
+
 def test_the_reports_of_shards_count_as_one(report: Report, tmp_path: Path, call: Call) -> None:
     make(tmp_path / "suite", BEFORE)
     report("old.json", "suite")

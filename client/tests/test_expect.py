@@ -132,6 +132,18 @@ def test_of_tables_that_say_more_all_are_taken_away_where_that_is_asked_for(
     assert toml.read_text() == '["a.pkt"]\nexpect = "fail 1 seq"\nreason = "so"\n'
 
 
+@pytest.mark.parametrize("key", ["strict = true", "mss = 1000"])
+def test_a_table_that_says_more_than_what_is_expected_stays(
+    key: str, fake_program: Path, tmp_path: Path, call: Call
+) -> None:
+    write(tmp_path, a=b"row pass 1\n")
+    toml = tmp_path / "pdsuite.toml"
+    toml.write_text(text := f'["b.pkt"]\n{key}\nexpect = "fail"\nreason = "so"\n')
+    called = call(fake_program, "expect", ".")
+    assert (called.status, called.out, toml.read_text()) == (2, "", text)
+    assert called.err.startswith('pdsuite.toml:1: ["b.pkt"]: no script of this name is beside the file')
+
+
 def test_names_of_any_characters_are_written(fake_program: Path, tmp_path: Path, call: Call) -> None:
     for name in NAMES:
         (tmp_path / os.fsdecode(name + b".pkt")).write_bytes(FAILS)

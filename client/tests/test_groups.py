@@ -46,6 +46,7 @@ def sent(first: int, flags: str = ".", time: str = "0", by: str = "line4") -> st
         (BASE + BLOCKS.format(1), BASE + BLOCKS.format(2), ("DupAcks", "an ACK with SACK blocks")),
         (BASE + sent(1), BASE + LAST.format(1001, "0.3", 1001), ("what leaves", "a packet that leaves")),
         (BASE + sent(1), BASE, ("nothing more is played", "a packet that leaves")),
+        (BASE, BASE + sent(1), ("nothing more is played", "a packet that leaves")),
         (BASE, "", ("no recording tells", "")),
     ],
 )
@@ -145,3 +146,10 @@ def test_the_largest_changes_come_first_by_the_quantity_that_is_asked_for() -> N
     many = [replace(it, index=number) for number in range(4) for it in scripts]
     assert len(list(quantity_lines_of_all_scripts(many, Quantity.TIME, True))) == 9
     assert len(list(quantity_lines_of_all_scripts(scripts[2:], Quantity.TIME, True))) == 0
+
+
+@pytest.mark.parametrize(("count", "more"), [(10, []), (11, ["  1 more (--every)"])])
+def test_ten_scripts_with_changed_quantities_are_shown_and_how_many_more_there_are(count: int, more: list[str]) -> None:
+    scripts = [script(f"s{number:02}.pkt", BASE, BASE + sent(1)) for number in range(count)]
+    assert list(quantity_lines_of_all_scripts(scripts, Quantity.TIME, False))[11:] == more
+    assert len(list(quantity_lines_of_all_scripts(scripts, Quantity.TIME, True))) == 1 + count

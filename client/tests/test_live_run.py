@@ -82,6 +82,17 @@ def test_an_answer_is_found_however_reads_cut_it(octets: int, monkeypatch: pytes
         assert program.query(b"settle\n", 1_000) == b"a total 1\ntotal 1\n"
 
 
+@pytest.mark.parametrize(
+    ("said", "reason"), [("echo well", "well"), ("true", "sh ended with status 3")], ids=["words", "status"]
+)
+def test_what_is_told_of_a_job_is_no_reason_for_which_a_program_ended(said: str, reason: str) -> None:
+    jobs = """echo 'job 1 s0 steps 3'; echo '{"name": "s0", "line": 1}'"""
+    script_words = f"{{ {said}; {jobs}; }} >&2; exit 3"
+    with Stop() as stop, StartedProgram(["sh", "-c", script_words], stop) as program:
+        with pytest.raises(ProgramEndedError, match=f"^{reason}$"):
+            program.query(b"settle\n", 1_000)
+
+
 def test_what_is_told_stays_until_its_script_runs_again_or_goes() -> None:
     run = LiveRun((), started)
     run.carry_out_acts_and_update_results([AddScript("a", ONE), AddScript("b", ONE)], RunContents((), {}))

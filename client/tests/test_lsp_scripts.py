@@ -317,6 +317,14 @@ def test_a_diagnostic_says_what_sent_a_packet_and_what_was_dropped() -> None:
     assert found.message == "fail missing\ndropped: line 5: its ACK lies below una"
 
 
+def test_untaken_packets_are_counted_with_those_that_are_not_listed() -> None:
+    text = "0 a() = 1\n"
+    missing = ScriptOutcome("a", (), Row(Verdict.FAIL, 1, "missing"))
+    cause = {"untaken_packets": ["x", "y"], "more_untaken_packets": 7}
+    (found,) = diagnostics_of(missing, cause, layout_of(text), DocumentLines(text))
+    assert found.message == "fail missing\nuntaken packets: 9"
+
+
 @pytest.mark.parametrize(
     ("expected", "column", "message"),
     [

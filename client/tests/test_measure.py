@@ -154,6 +154,13 @@ def test_times_of_some_microseconds_are_told_in_microseconds() -> None:
     )
 
 
+def test_a_time_of_some_microseconds_beside_a_long_one_is_told_in_milliseconds() -> None:
+    queue = next(it for it in FIGURES if it.key == "queue")
+    for before, after in ((0.5, 2_000.5), (2_000.5, 0.5)):
+        cells = row_cells_without_verdict(FigureRow(queue, before, after, 0, 0, None))
+        assert sorted(cells[1:3]) == ["0.001 ms", "2.001 ms"]
+
+
 def test_a_narrow_terminal_has_the_numbers_of_a_figure_below_it() -> None:
     draw = Random(6)
     slow = [draw.gauss(200_000_000, 20_000_000) for _ in range(40)]

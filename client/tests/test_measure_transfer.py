@@ -11,7 +11,8 @@ import pytest
 
 from pdsuite.measure.link import LossModel
 from pdsuite.measure.paths import HEADER, NetworkPath, load_network_paths_matching
-from pdsuite.measure.transfer import TransferResult, SegmentDeparture, Transfer, play_transfer_as_generator
+from pdsuite.measure.transfer import SegmentDeparture, SenderReply, Transfer, TransferResult
+from pdsuite.measure.transfer import play_transfer_as_generator
 from pdsuite.measure.transfer_batch import TransferOutcome, UnfinishedTransferError, play_transfers
 from pdsuite.packetdrill.items import Packet
 from pdsuite.programs.recorder import TRACE, record_texts
@@ -129,6 +130,16 @@ def test_a_loss_without_enough_duplicates_costs_the_timer(programs: Path, lose: 
 
 
 # ---- what always holds
+
+
+def test_several_segments_that_the_timer_sends_at_once_are_one_expiry() -> None:
+    game = play_transfer_as_generator(WIDE, 1_000, "", ROOM)
+    next(game)
+    at_once = (SegmentDeparture(300_000, 1, 501, True), SegmentDeparture(300_000, 501, 1_001, True))
+    game.send(SenderReply(at_once, None))
+    with pytest.raises(StopIteration) as end:
+        game.send(SenderReply((), None))
+    assert (end.value.value.segments, end.value.value.expiries) == (2, 1)
 
 
 def odd_path(draw: Random) -> NetworkPath:

@@ -5,7 +5,7 @@ import os
 import re
 import subprocess
 import time
-from datetime import UTC, datetime
+from datetime import UTC, datetime, timedelta
 from pathlib import Path
 from xml.etree import ElementTree
 
@@ -241,6 +241,13 @@ def test_junit_names_the_line_before_where_that_one_lacks_something() -> None:
     broken = ScriptOutcome("a.pkt", (), Row(Verdict.SYNTAX, 3), explanation={"text_line": 2})
     root = ElementTree.fromstring(junit_xml([broken, ScriptOutcome("b.pkt", (), Row(Verdict.PASS, 1))], 1.0))
     assert [it.get("line") for it in root.iter("testcase")] == ["2", "1"]
+
+
+def test_the_suites_of_junit_begin_so_many_seconds_ago() -> None:
+    begin = datetime.now(UTC).replace(microsecond=0) - timedelta(hours=1)
+    root = ElementTree.fromstring(junit_xml([ScriptOutcome("a.pkt", (), Row(Verdict.PASS, 1))], 3_600.0))
+    (timestamp,) = (it.get("timestamp") for it in root.iter("testsuite"))
+    assert begin <= datetime.fromisoformat(f"{timestamp}+00:00") <= datetime.now(UTC) - timedelta(hours=1)
 
 
 def test_junit_of_many_scripts_costs_little_when_a_signal_ends_the_run() -> None:

@@ -140,6 +140,7 @@ def test_the_reports_of_shards_are_one() -> None:
 def test_the_first_shard_that_is_missing_is_named() -> None:
     part = join_reports("new", [report("1", shard=Shard(number, 999_999_999)) for number in (1, 2, 4)])
     assert part.first_missing_shard() == Shard(3, 999_999_999)
+    assert report("1", shard=Shard(1, 2)).first_missing_shard() == Shard(2, 2)
     assert report("1", "a").first_missing_shard() is None
 
 

@@ -175,6 +175,11 @@ def test_of_a_folder_that_moved_rows_that_differ_are_shown() -> None:
     assert lines[2].startswith("b/s002.pkt:2: fail seq: the packet") and len(lines) == 8
 
 
+def test_of_a_folder_that_moved_another_line_is_another_row() -> None:
+    lines = shown(report(FAIL, "a/x.pkt"), report(Row(Verdict.FAIL, 3, "seq"), "b/x.pkt"))
+    assert lines[:2] == ["a/ moved to b/: 1 script, 1 with another row", "b/x.pkt:3: fail seq"]
+
+
 MOVES = [
     (["a/x", "a/in/y"], ["b/x", "b/in/y"], [("a", "b", 2)]),
     (["a/in/x", "a/z"], ["b/in/x", "a/z"], [("a/in", "b/in", 1)]),
