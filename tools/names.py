@@ -1,5 +1,6 @@
 #!/usr/bin/env -S python3 -B
-"""Finds names that don't explain themselves: a noun of more than one type, and words that prose is to avoid.
+"""Finds names that don't explain themselves: a noun of more than one type, and words that prose is to avoid, anywhere
+or as the first of a sentence.
 
 Types are those of crates/*/src, and the classes of client, tools, tests and bench but for classes of tests. Prose is
 pages, comments and docstrings, without what is written as code. tools/names.toml has the words, what to write instead,
@@ -108,12 +109,26 @@ def words_to_avoid_in_prose_of(
                         yield f"{text.path}:{line}", f"{found[0]} ({instead})"
 
 
+def sentences_that_hide_their_subject(
+    files: list[ScannedText], words: dict[str, str], explained: dict[str, str]
+) -> Iterator[tuple[str, str]]:
+    """The places of words that are to begin no sentence but a title or a question, each with what to do instead."""
+    for text in files:
+        allowed = [it.rpartition(": ")[2] for it in explained if fnmatch(text.path, it.rpartition(": ")[0])]
+        for line, prose in prose_in(text):
+            for word, instead in words.items():
+                found = re.search(rf"(?:^[^\w\"`#]*|[.!:] ){word} [^?]*$", prose)
+                if found and word not in allowed and not (text.suffix == ".md" and prose.startswith("#")):
+                    yield f"{text.path}:{line}", f"{word} ({instead})"
+
+
 def main() -> int:
     with (TOP / "tools" / "names.toml").open("rb") as file:
         table = tomllib.load(file)
     files = list(read_all_git_files_as_text())
     nouns = place_and_repeated_type_name_pairs(files, table["nouns"], table["second_readings"])
-    left = [*nouns, *words_to_avoid_in_prose_of(files, table["words"], table["explained"])]
+    words = words_to_avoid_in_prose_of(files, table["words"], table["explained"])
+    left = [*nouns, *words, *sentences_that_hide_their_subject(files, table["beginnings"], table["explained"])]
     for place, word in left:
         print(f"{place}: {word}")
     return 1 if left else 0

@@ -135,7 +135,7 @@ control() {
     libraries=$(libraries)
     [ -n "$libraries" ] || die "$(tail -n 1 "$work/errors")"
     depends="python3 (>= 3.11), $(listed <"$top/client/packages.txt"), $libraries"
-    # What is large only few commands need.
+    # Only few commands need the large ones.
     recommends=$(grep -vxF -f "$top/packaging/suggests.txt" "$top/client/packages-more.txt" | listed)
     sed -e "s/@VERSION@/$version/" -e "s/@DEPENDS@/$depends/" -e "s/@SIZE@/$(du -sk "$root/usr" | cut -f 1)/" \
         -e "s/@RECOMMENDS@/$recommends/" -e "s/@SUGGESTS@/$(listed <"$top/packaging/suggests.txt")/" \

@@ -249,7 +249,7 @@ class Times:
 
 
 def own_source_paths_of_crate(crate: str) -> Iterator[Path]:
-    """The files that the proof of a crate reads."""
+    """The files of a crate that its proof reads."""
     for folder in ("src", "specs", "proofs"):
         for kind in ("*.rt", "*.antt"):
             yield from (TOP / "crates" / crate / folder).rglob(kind)

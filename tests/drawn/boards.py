@@ -53,7 +53,7 @@ class Mix:
 
 SHORT = Mix(calls=30, acks=3, expiries=4, block=150, written=1_000_000)
 
-# BookLists in which runs of SACKed octets gather.
+# Lists in which runs of SACKed octets gather.
 LONG = Mix(calls=250, acks=200, expiries=100, block=6, written=2_000)
 
 

@@ -97,7 +97,7 @@ class BookLists:
         self.spared_behind = 0
 
     def one_after_the_other(self) -> Iterator[list[str]]:
-        """BookLists without end."""
+        """Lists without end."""
         while True:
             yield list(self.rows())
 

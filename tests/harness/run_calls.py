@@ -38,7 +38,7 @@ def run_calls(commands: Commands, calls: Sequence[ProgramCall]) -> Outputs:
 
 
 def call_program(command: Sequence[str | Path], call: ProgramCall) -> ProgramOutput:
-    """The output of a program for a call; one that takes too long is ended, and has none."""
+    """The output of a program for a call; one that takes too long is ended, and has an error text and no status."""
     command_line = [*map(os.fsencode, command), *call.arguments]
     try:
         if call.counts_read:
@@ -179,7 +179,7 @@ def call_sources(calls: Sequence[ProgramCall]) -> Outputs:
 
 
 def group_by_program(calls: Mapping[int, ProgramCall], folder: Path) -> list[SourceCalls]:
-    """The calls of each program; those that take longest come first."""
+    """The calls of each program; the program with most calls comes first."""
     groups: dict[str, SourceCalls] = {}
     for place, call in calls.items():
         groups.setdefault(call.program, SourceCalls(call.program, {}, folder / call.program)).calls[place] = call

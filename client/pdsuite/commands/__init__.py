@@ -11,8 +11,8 @@ texts.
   done.
 - A command checks all that can be refused (settings, places of files, programs) before it runs the first script, and
   writes what was requested even where a signal ends it early.
-- What one command needs from another is a module of a lower package; commands import each other only for a search
-  within a comparison.
+- Code that two commands need is a module of a lower package; commands import each other only for a search within a
+  comparison.
 
 Options are checked here and not in the packages below: those take values that are right, and raise a `Fault` only for
 what the world outside does.

@@ -6,7 +6,7 @@ SACK blocks, staircases of cwnd and of what is outstanding, notes, and the `Fail
 
     recording --programs.trace--> TracedEvent --timeline--> Timeline --draw_figure--> Figure --pictures--> SVG, PNG
 
-- What is drawn is decided in `timeline` alone, as values that tests compare; `plot` and `canvas` know of no recording.
+- `timeline` alone decides what is drawn, as values that tests compare; `plot` and `canvas` know of no recording.
 - The same timeline gives the same octets: ids are numbered, and nothing of the time or of the machine is in a picture.
 - Colours are names, which a page defines for light and dark (`palette`). A picture in a page has no colour of its own.
 - Times are microseconds and numbers are octets, SYN and FIN counting one each (RFC 9293).

@@ -9,7 +9,7 @@ into the text.
                            '---calls, packets, profile--> Rewrite --apply_rewrites--> text; Finding for each counted
 
 - Nothing of a script is run: shell commands and code are read as text, and what isn't understood is a reason.
-- What is dropped stays in the text as a comment, and says why. So the script shows what its test was about, and
+- A dropped feature stays in the text as a comment, and says why. So the script shows what its test was about, and
   `run/import_check.py` can say which dropped feature acts where the script fails (`dropped_features`).
 - No verdict is needed. An import may fail when it is run; it isn't changed until it passes, since a kernel's script
   that fails here is what one wants to know of.

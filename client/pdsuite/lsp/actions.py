@@ -41,7 +41,7 @@ class CodeAction:
 
 @dataclass(frozen=True)
 class FailingScript:
-    """A script that doesn't pass: its text, its row, and what the program tells of it."""
+    """A script that doesn't pass, or passes with a warning: its text, its row, and the program's explanation."""
 
     lines: DocumentLines
     layout: Layout

@@ -16,8 +16,8 @@ scenarios (`generate`) and variations of inputs that reached something new (`mut
   no other module here knows how a sender is run.
 - A find is what a program says it is: a script that passes before and fails after, or a recording that reaches the
   state.
-- What is reached is counted by kinds of states (`states`), in which numbers count by order and rough size; otherwise
-  each input would be new.
+- The states that inputs reach are counted by kinds (`states`), in which numbers count by order and rough size;
+  otherwise each input would be new.
 
 Inputs are played and not just drawn: a peer that acknowledges what really was sent gets deep into a connection, where
 random packets would be dropped.

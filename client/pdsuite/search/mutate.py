@@ -95,7 +95,7 @@ class InputMutator:
         return sorted_settings({**dict(given), key: self._pick(KEYS[key])})
 
     def _insert_move_delete_or_change_event(self, events: list[Input], at: int, state: TracedState) -> None:
-        """Changes an event, or puts one before it."""
+        """Changes, moves or deletes an event, or puts one before it."""
         there = events[at] if at < len(events) else None
         if there is None or self._random.random() < 0.5:
             moment = events[at - 1].at + self._draw_gap_near_timer_or_preset(events[at - 1].at, state) if at else 0
@@ -110,7 +110,7 @@ class InputMutator:
             events[at] = replace(there, what=make_call(_WRITE, 4, "...", self._pick(_SIZES)))
 
     def _draw_gap_near_timer_or_preset(self, now: int, state: TracedState) -> int:
-        """How long something waits: until the timer expires, give or take a microsecond, or some round time."""
+        """How long something waits: until the timer expires or an RTO, a little more or less, or some round time."""
         expiry, timeout = state.fact_as_moment("expiry"), state.fact_as_moment("RTO")
         around = [it for it in (expiry and expiry - now, timeout) if it]
         if around and self._random.random() < 0.4:

@@ -22,7 +22,7 @@
 //! - No octet or segment has a mark that says that it is lost. That is counted from the runs when
 //!   it is asked, so no mark can be out of date; the module `counts` has these passes. The octets
 //!   sent again are one number, HighRxt, which the caller keeps.
-//! - What lies below a lost octet is lost, whatever was SACKed (the law `law_lost_downward_closed_pipe_bounded`). So
+//! - All below a lost octet is lost, whatever was SACKed (the law `law_lost_downward_closed_pipe_bounded`). So
 //!   one number, `lost_edge`, says all that is lost.
 //! - A board that finds no memory keeps its numbers and refuses the call, and from then on each
 //!   call that may fail, since without the block that was left out the rules would count wrongly.

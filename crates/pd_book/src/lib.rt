@@ -2,8 +2,8 @@
 //!
 //! A `Book` holds scripts and settings, which its callers change. `start` hands out a `Job`,
 //! `run_job` makes a `Done` of it, whenever and wherever, and `finish` takes it or rules it stale.
-//! `show` gives a `Report` with a `Row` for each script. What a book shows is defined on the list
-//! of its accepted calls alone (`Book::history`, a list of `Act`s), and `law_verdicts_are_of_current_runs` says it in terms
+//! `show` gives a `Report` with a `Row` for each script. A report is defined on the list
+//! of the book's accepted calls alone (`Book::history`, a list of `Act`s), and `law_verdicts_are_of_current_runs` says it in terms
 //! of positions in that list.
 //!
 //! ```text

@@ -13,7 +13,7 @@
 //! Why it is so:
 //! - A fail names one thing. The order is fixed, so the word depends on the packet alone, and not
 //!   on the way in which it was compared.
-//! - What a script doesn't write isn't compared: an ack number, a window, or options written as
+//! - A field that a script doesn't write isn't compared: an ack number, a window, or options written as
 //!   `<...>`. If no options are written, none may be sent.
 //! - Moments come from the caller, since relative times count from a base, which `pd_run` keeps.
 //! - A result is compared as a number first, so that `-1` stands for any error. Only if the script

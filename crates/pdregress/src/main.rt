@@ -8,7 +8,7 @@
 //! - Of the streams of a process a contract can say little, so nothing is decided here. `main`
 //!   promises nothing; runs of the built program (tests/cases/runs) show that it hands in its arguments
 //!   and streams and gives the status.
-//! - `pdrecord` is a program of its own, since it has no book and no threads. What both need is in
+//! - `pdrecord` is a program of its own, since it has no book and no threads. The code that both need is in
 //!   `pd_protocol`.
 #![tactic(auto)]
 

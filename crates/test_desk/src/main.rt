@@ -13,7 +13,7 @@
 //! Why it is so:
 //! - No contract says in which order threads run, who is woken, or that a call that waits ends.
 //!   Only tests show it, most of them here.
-//! - What is written with workers is compared with what one thread writes (`reference`, and serving
+//! - The output with workers is compared with what one thread writes (`reference`, and serving
 //!   without workers): a settled report depends on the accepted commands alone.
 //! - Random schedules seldom meet a rare order, so a few short lists of calls are made in all of
 //!   them.

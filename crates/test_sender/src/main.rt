@@ -10,8 +10,8 @@
 //! Why it is so:
 //! - The scoreboard and congestion control are tried by themselves, below a connection, since a
 //!   list of calls reaches states that few scripts reach.
-//! - What rows want was worked out by hand, or by the second sender in tests/model, and not taken
-//!   from the program. README.md has the rows.
+//! - The results that rows want are worked out by hand, or by the second sender in tests/model, and
+//!   not taken from the program. README.md has the rows.
 //! - It calls the crates of the sender themselves and no book, so it is proved and built beside the
 //!   crates of the report.
 #![tactic(auto)]
