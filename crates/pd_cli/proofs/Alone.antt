@@ -1,25 +1,23 @@
 -- A book that serves alone writes what may be written for every number of workers.
-use Rattle.std.proofs.Common.{◌≡◌, inl, inr, ℕ, nat_le, Bool, true, false, cond, List, [], ◌∷◌, ◌++◌, length, take, Option, Some, None, Result, Ok, Err, refl, sym, ap, subst, ◌∙◌, append-nil, IfSome, suc, zero}
+use Rattle.std.proofs.Common.{◌≡◌, inl, inr, ℕ, nat_le, Bool, true, false, cond, List, [], ◌∷◌, ◌++◌, length, take, Option, Some, None, Result, Ok, Err, refl, sym, ap, subst, ◌∙◌, append-nil, suc, zero}
 use Rattle.std.specs.Str.Lines.{lines}
 use Rattle.pd_settings.specs.declared.settings.Settings.{Settings}
-use Rattle.pd_book.specs.Acts.{NamedText, texts, now}
+use Rattle.pd_book.specs.Acts.{NamedText, now}
 use Rattle.pd_book.specs.Headline.{ScratchIsOne}
-use Rattle.pd_book.specs.Report.{ReportView, scratch}
 use Rattle.pd_book.specs.History.{History}
 use Rattle.pd_protocol.specs.CommandLines.{command_line_of}
 use Rattle.pd_protocol.specs.Commands.{InputItem, does, stops, fitted, line_edit_if_lines_are_some, with_lines, items_at, items, commands}
-use Rattle.pd_protocol.specs.NextCommand.{FaultIn}
 use Rattle.pd_protocol.specs.declared.command_line.CommandLine.{CommandLine}
 use Rattle.pd_protocol.specs.declared.command_line.CommandLine.TheVariants as asks
 use Rattle.pd_protocol.specs.declared.command.Command.{Command}
 use Rattle.pd_protocol.specs.declared.command.Command.TheVariants.{Add, Edit, Remove, Set, Show, Settle}
 use Rattle.pd_protocol.specs.declared.faults.ServeFault.{ServeFault}
 use Rattle.pd_protocol.specs.declared.faults.ServeFault.TheVariants.{HistoryFull, NoWorkers, Differs, BadCommand, Truncated, Read, Write, OutOfMemory}
-use Rattle.pd_cli.specs.Output.{report, effect, PrintsAlone, all_pass, output, outcome, Answers}
-use Rattle.pd_cli.specs.Beside.{from_scratch, MayPrint, MayPrintAll, StopsBefore, SettlesNext, MayAnswer}
+use Rattle.pd_cli.specs.Output.{report, effect, PrintsAlone, all_pass, outcome, Answers}
+use Rattle.pd_cli.specs.Beside.{from_scratch, MayPrint, SettlesNext, MayAnswer}
 use Rattle.pd_cli.specs.Grammatical.{Writes, ServesAlone}
 use Rattle.pd_cli.specs.Laws.{HaveSame, SettlesPrintScratch, SessionsArePossibleBeside, WritesAreOutput}
-use Rattle.pd_cli.specs.Sessions.{PrintsAll, PrintsFirst, StopsAt, EndsBy, ServesBy}
+use Rattle.pd_cli.specs.Sessions.{PrintsAll, PrintsFirst, EndsBy, ServesBy}
 use Rattle.pd_cli.specs.Steps.{Fails}
 use Rattle.pd_cli.proofs.Beside.{fault_may, stops_may, scratch_of, if_some}
 use Rattle.pd_cli.proofs.Written.{IsEffect, FailsSo, PassesSo, alone_ends}

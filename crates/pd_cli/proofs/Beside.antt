@@ -1,5 +1,5 @@
 -- The octets written so far with workers, and those still to come.
-use Rattle.std.proofs.Common.{◌≡◌, ◌⊎◌, inl, inr, ℕ, Bool, true, List, [], ◌∷◌, ◌++◌, map, Option, Some, None, option_map, Result, Ok, Err, refl, sym, ap, subst, ◌∙◌, append_assoc, append-nil, IfSome, IfErr, IfOk, IsOk, IsErrAnd, OnOk, OnErr, take, drop}
+use Rattle.std.proofs.Common.{◌≡◌, ◌⊎◌, inl, inr, ℕ, Bool, true, List, [], ◌∷◌, ◌++◌, map, Option, Some, None, option_map, Result, Ok, Err, refl, sym, ap, subst, ◌∙◌, IfSome, IfOk, IsOk, IsErrAnd, OnOk}
 use Rattle.std.specs.List.{All}
 use Rattle.std.specs.Prelude.{IsSome, IsSomeAnd, is_some}
 use Rattle.std.proofs.lemmas.List.Elements.{All-head, All-tail}
@@ -20,14 +20,13 @@ use Rattle.pd_book.specs.History.{History, after_act}
 use Rattle.pd_protocol.specs.Commands.{InputItem, does, stops, commands}
 use Rattle.pd_protocol.specs.NextCommand.{FaultIn}
 use Rattle.pd_protocol.specs.declared.command.Command.{Command}
-use Rattle.pd_protocol.specs.declared.command.Command.TheVariants.{Settle}
 use Rattle.pd_protocol.specs.declared.faults.ServeFault.{ServeFault}
 use Rattle.pd_protocol.specs.declared.faults.ServeFault.TheVariants.{HistoryFull, NoWorkers, Differs, BadCommand, Truncated, Read, Write, OutOfMemory}
 use Rattle.pd_protocol.proofs.Known.{appends_none}
 use Rattle.pd_cli.specs.Output.{all_pass}
 use Rattle.pd_cli.specs.Beside.{from_scratch, IsScratchOf, IsPartOf, MayAct, MayPrint, MayPrintAll, StopsBefore, SettlesNext, DoesNext, MayAnswer, EndsBeside, ServesBeside}
 use Rattle.pd_cli.specs.BesideSteps.{Declines, scripts_of, IsOfSame, FailsBeside}
-use Rattle.pd_cli.specs.Sessions.{PrintsAll, PrintsFirst, StopsAt, EndsBy, ServesBy}
+use Rattle.pd_cli.specs.Sessions.{PrintsAll, PrintsFirst, EndsBy, ServesBy}
 
 -- ---- acts
 

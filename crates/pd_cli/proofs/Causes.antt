@@ -1,5 +1,5 @@
 -- Where reading stops, and why.
-use Rattle.std.proofs.Common.{◌≡◌, ◌⊎◌, inl, inr, ℕ, Bool, List, [], Option, Result, Ok, Err, IsErrAnd}
+use Rattle.std.proofs.Common.{◌≡◌, inl, inr, ℕ, Bool, List, [], Option, Result, Ok, Err, IsErrAnd}
 use Rattle.pd_protocol.specs.Input.{IfKnown, Spends, IsCaused, HasCause}
 use Rattle.pd_protocol.specs.declared.command.Command.{Command}
 use Rattle.pd_protocol.specs.declared.command.Command.TheVariants.{Settle}

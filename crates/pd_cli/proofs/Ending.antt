@@ -1,5 +1,5 @@
 -- How a run of the program ends.
-use Rattle.std.proofs.Common.{◌≡◌, ◌≤◌, arith, zero, suc, true, ℕ, Bool, ◌⊎◌, inl, inr, List, [], Option, Some, None, Result, Ok, Err, IfSome, IsErrAnd, refl, ap}
+use Rattle.std.proofs.Common.{◌≡◌, ◌≤◌, arith, zero, suc, ℕ, Bool, ◌⊎◌, inl, inr, List, [], Option, Some, None, Result, Ok, Err, IfSome, refl, ap}
 use Rattle.std.specs.Io.KnownBytes.{Appends}
 use Rattle.pd_settings.specs.declared.settings.Settings.{Settings}
 use Rattle.pd_protocol.specs.Commands.{commands}

@@ -1,5 +1,5 @@
 -- The octets that are written by the grammar are just the output.
-use Rattle.std.proofs.Common.{◌≡◌, ◌⊎◌, inl, inr, ℕ, ◌+◌, ◌≤◌, Bool, true, false, cond, List, [], ◌∷◌, ◌++◌, map, Option, Some, None, is_some, option_map, Result, Ok, Err, refl, sym, ap, subst, ◌∙◌, append_assoc, append-nil, arith, zero, suc}
+use Rattle.std.proofs.Common.{◌≡◌, ◌⊎◌, inl, inr, ℕ, ◌+◌, ◌≤◌, Bool, true, false, cond, List, [], ◌∷◌, ◌++◌, map, Option, Some, None, is_some, Result, Ok, Err, refl, sym, ap, subst, ◌∙◌, append_assoc, append-nil, arith, zero, suc}
 use Rattle.std.specs.List.{AllByRecursion, All}
 use Rattle.std.specs.Str.Lines.{lines}
 use Rattle.std.proofs.lemmas.List.Elements.{All-map, All-from_recursion, All-head, All-tail}
@@ -22,7 +22,7 @@ use Rattle.pd_protocol.specs.declared.command.Command.{Command}
 use Rattle.pd_protocol.specs.declared.command.Command.TheVariants.{Add, Edit, Remove, Set, Show, Settle}
 use Rattle.pd_protocol.specs.declared.faults.ServeFault.{ServeFault}
 use Rattle.pd_protocol.specs.declared.faults.ServeFault.TheVariants.{HistoryFull, NoWorkers, Differs, BadCommand, Truncated, Read, Write, OutOfMemory}
-use Rattle.pd_cli.specs.Grammatical.{IsReportOf, SettlesTo, IsRefusedStart, Prints, Stops, WritesUpTo, WritesPart, Writes}
+use Rattle.pd_cli.specs.Grammatical.{IsReportOf, IsRefusedStart, Prints, Stops, WritesUpTo, WritesPart, Writes}
 use Rattle.pd_cli.specs.Laws.{WritesAreOutput}
 use Rattle.pd_cli.specs.Output.{Session, ahead, follow, outcome, output, report, reported, effect, PrintsAlone, all_pass, Answers}
 use Rattle.pd_cli.specs.Report.{rendered}

@@ -25,7 +25,6 @@ use Rattle.pd_protocol.specs.declared.command_line.CommandLine.{CommandLine}
 use Rattle.pd_protocol.specs.declared.command_line.CommandLine.TheVariants as asks
 use Rattle.pd_protocol.specs.declared.command.Command.{Command}
 use Rattle.pd_protocol.specs.declared.command.Command.TheVariants.{Add, Edit, Remove, Set, Show, Settle}
-use Rattle.pd_protocol.specs.declared.faults.ServeFault.{ServeFault}
 use Rattle.pd_protocol.specs.declared.faults.ServeFault.TheVariants.{Truncated}
 use Rattle.pd_cli.specs.Report.{rendered}
 use Rattle.pd_cli.specs.Output.{report, acted, reported, effect, PrintsAlone}

@@ -1,5 +1,5 @@
 -- The reports of jobs, and the end of a run that prints them.
-use Rattle.std.proofs.Common.{◌≡◌, ◌⊎◌, ◌==◌, ◌||◌, ℕ, Bool, true, false, List, [], ◌∷◌, ◌++◌, length, bytes_eq, codes, Bor, Option, Some, None, if◌then◌else◌, Result, Ok, Err, IfSome, ◌≤◌, arith, zero, suc, refl, sym, ap, subst, ◌∙◌, append_assoc, append-nil}
+use Rattle.std.proofs.Common.{◌≡◌, ◌⊎◌, ◌==◌, ◌||◌, ℕ, Bool, true, false, List, [], ◌∷◌, ◌++◌, length, bytes_eq, codes, Bor, Option, Some, None, Result, Ok, Err, IfSome, ◌≤◌, arith, zero, suc, refl, sym, ap, subst, ◌∙◌, append_assoc, append-nil}
 use Rattle.std.specs.Io.KnownBytes.{Appends}
 use Rattle.std.specs.List.{list_any}
 use Rattle.std.proofs.lemmas.List.{length-map}
@@ -16,12 +16,12 @@ use Rattle.pd_protocol.specs.declared.faults.ServeFault.{ServeFault}
 use Rattle.pd_protocol.specs.declared.faults.ServeFault.TheVariants.{OutOfMemory}
 use Rattle.pd_protocol.proofs.Writing.{says_front, says_then}
 use Rattle.pd_protocol.proofs.Known.{appends_none}
-use Rattle.pd_cli.specs.ExplanationBlocks.{IsBlockOf, Explains, is_selected_or_none_selected, verdict_of_task}
+use Rattle.pd_cli.specs.ExplanationBlocks.{IsBlockOf, is_selected_or_none_selected}
 use Rattle.pd_cli.specs.Program.{Runs, end_of, status_of, stderr_of, Finishes, FinishesOutput}
 use Rattle.pd_cli.specs.StartedJobs.{AreJobsOfRun, AreStartedBy}
 use Rattle.pd_cli.specs.StepLines.{FinishedJob, AreNumbered, step_line, step_lines}
 use Rattle.pd_cli.specs.Observed.{ObservesAll, WritesMore}
-use Rattle.pd_cli.specs.Reported.{IsExplained, IsReport, ReportsJob, AreReported, AreReportedUnlessFailed, NothingIsReported, StepsAreReported, BlocksAreReported}
+use Rattle.pd_cli.specs.Reported.{IsReport, ReportsJob, AreReportedUnlessFailed, NothingIsReported, StepsAreReported, BlocksAreReported}
 use Rattle.pd_cli.proofs.Ending.{memory_runs, settings_out}
 
 -- nothing was written
@@ -162,7 +162,7 @@ quiet_end failed exit end workers report_options text all out out1 err err1 e j 
 pub beside_end : (failed : Type 0) (exit : Exit) (end : Result Bool ProgramFault) (workers : ℕ) (report_options : ReportOptions) (text : List ℕ) (all out out1 err err1 : Option (List ℕ)) → exit.status ≡ status_of end → 1 ≤ workers → WritesTo exit.stderr_ok err err1 (stderr_of end)
     → (octets : List ℕ) × Appends out out1 octets × IfSome all (Runs failed workers (settings_in text) end octets) → Finishes failed exit workers report_options text all out out1 err err1
 beside_end failed exit end workers report_options text all out out1 err err1 e some m h =
-    quiet_end failed exit end workers report_options text all out out1 err err1 e (if_known (AreJobsOfRun workers (settings_in text) end []) all (λ input. none_with workers (settings_in text) end input some)) m h
+    quiet_end failed exit end workers report_options text all out out1 err err1 e (if_known (AreJobsOfRun workers (settings_in text) end []) all (λ input. none_beside workers (settings_in text) end input some)) m h
 
 -- settings that are no good
 pub settings_end : (failed : Type 0) (exit : Exit) (fault : ProgramFault) (workers : ℕ) (report_options : ReportOptions) (text : List ℕ) (all out err err1 : Option (List ℕ)) → exit.status ≡ 2 → WritesTo exit.stderr_ok err err1 (fault_line (codes "pdregress") fault) → (settings_in text ≡ Err fault) ⊎ (fault ≡ Serving OutOfMemory)

@@ -1,5 +1,5 @@
 -- A session, step by step.
-use Rattle.std.proofs.Common.{◌≡◌, ◌⊎◌, inl, inr, ℕ, Bool, List, [], ◌∷◌, ◌++◌, Option, Some, None, Result, Ok, Err, refl, sym, ap, subst, ◌∙◌, append_assoc, append-nil, IfSome, IfErr, IfOk, IsErrAnd, OnOk, OnErr, take, drop}
+use Rattle.std.proofs.Common.{◌≡◌, inl, inr, ℕ, Bool, List, [], ◌∷◌, ◌++◌, Option, Some, None, Result, Ok, Err, refl, sym, ap, subst, ◌∙◌, append_assoc, append-nil, IfSome, IfErr, IsErrAnd, OnOk, OnErr, take, drop}
 use Rattle.std.specs.Io.KnownBytes.{Appends}
 use Rattle.std.proofs.lemmas.List.{take-append-drop}
 use Rattle.pd_protocol.specs.Input.{IfKnown, to_come}
@@ -9,8 +9,8 @@ use Rattle.pd_protocol.specs.declared.command.Command.{Command}
 use Rattle.pd_protocol.specs.declared.command.Command.TheVariants.{Settle}
 use Rattle.pd_protocol.specs.declared.faults.ServeFault.{ServeFault}
 use Rattle.pd_protocol.specs.declared.faults.ServeFault.TheVariants.{Write}
-use Rattle.pd_protocol.proofs.Known.{appends_then, known_then, fact_before, fact_then, appends_none}
-use Rattle.pd_cli.specs.Sessions.{PrintsAll, PrintsFirst, StopsAt, EndsBy, ServesBy, HasAnswered, DoesBy, SettlesBy}
+use Rattle.pd_protocol.proofs.Known.{appends_then, known_then, fact_before, appends_none}
+use Rattle.pd_cli.specs.Sessions.{PrintsAll, EndsBy, ServesBy, HasAnswered, DoesBy, SettlesBy}
 
 -- ---- one command
 

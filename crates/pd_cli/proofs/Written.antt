@@ -9,7 +9,7 @@ use Rattle.pd_book.specs.declared.faults.BookFault.{BookFault}
 use Rattle.pd_book.specs.declared.faults.BookFault.TheVariants as book
 use Rattle.pd_book.specs.History.{History, after_act}
 use Rattle.pd_book.specs.Refusals.{add_refusal, edit_refusal, remove_refusal, set_refusal}
-use Rattle.pd_protocol.specs.Commands.{InputItem, does, stops, commands}
+use Rattle.pd_protocol.specs.Commands.{InputItem, does, stops}
 use Rattle.pd_protocol.specs.NextCommand.{FaultIn}
 use Rattle.pd_protocol.specs.declared.command.Command.{Command}
 use Rattle.pd_protocol.specs.declared.command.Command.TheVariants.{Add, Edit, Remove, Set, Show, Settle}
@@ -17,7 +17,7 @@ use Rattle.pd_protocol.specs.declared.faults.ServeFault.{ServeFault}
 use Rattle.pd_protocol.specs.declared.faults.ServeFault.TheVariants.{HistoryFull, NoWorkers, Differs, BadCommand, Truncated, Read, Write, OutOfMemory}
 use Rattle.pd_cli.specs.Report.{rendered}
 use Rattle.pd_cli.specs.Output.{Session, outcome, ahead, follow, acted, effect, reported, report, all_pass, Answers}
-use Rattle.pd_cli.specs.Sessions.{PrintsAll, PrintsFirst, StopsAt, EndsBy, ServesBy}
+use Rattle.pd_cli.specs.Sessions.{PrintsAll, PrintsFirst, EndsBy}
 use Rattle.pd_cli.specs.Steps.{IsQuiet, Fails}
 
 -- no job is outstanding after a command

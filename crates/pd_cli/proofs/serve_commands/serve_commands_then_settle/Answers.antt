@@ -1,4 +1,4 @@
-use Rattle.std.proofs.Common.{refl, []}
+use Rattle.std.proofs.Common.{[]}
 use Rattle.pd_protocol.specs.Input.{to_come}
 use Rattle.pd_cli.proofs.Sessions.{so_first, so_more, next_some, next_none, fault_serves, out_serves, end_serves, now_answered, stop_answered, end_answered}
 use Rattle.pd_protocol.proofs.Spending.{spent_none, spends_then}

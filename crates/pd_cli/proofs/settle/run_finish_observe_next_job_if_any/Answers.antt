@@ -1,4 +1,4 @@
-use Rattle.std.proofs.Common.{refl, sym, ap, ℕ, ◌+◌, ◌∙◌}
+use Rattle.std.proofs.Common.{sym, ap, ℕ, ◌+◌, ◌∙◌}
 use Rattle.pd_track.specs.Reuse as reuse
 use Rattle.pd_cli.proofs.Settled.{start_full, finish_ok, finish_own, turn_done}
 use Rattle.pd_cli.proofs.Observed.{turn_heard}

@@ -1,8 +1,5 @@
-use Rattle.std.proofs.Common.{sym}
-use Rattle.pd_protocol.specs.Input.{HasCause}
 use Rattle.pd_cli.proofs.Beside.{beside_unopened}
 use Rattle.pd_cli.proofs.Causes.{memory_caused}
-use Rattle.pd_cli.proofs.Reported.{tied}
 use Rattle.pd_cli.proofs.workers.serve.Goals as goal
 
 pub returns-in_err-desk-clause-serves : goal.returns-in_err-desk-clause-serves
