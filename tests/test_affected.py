@@ -1,4 +1,4 @@
-"""Tests of tools/affected_sections.py: which paragraphs of the sender's page a change affects."""
+"""Tests of tools/affected.py and affected_sections.py: how programs are started, and what a change affects."""
 
 import sys
 from pathlib import Path
@@ -8,12 +8,14 @@ import pytest
 TOP = Path(__file__).resolve().parents[1]
 sys.path.insert(0, str(TOP / "tools"))
 
+from affected import encode_program_call_with_output_limit, leading_length_prefixed_parts  # noqa: E402
 from affected_sections import (  # noqa: E402
     AffectedParagraph,
     affected_paragraphs_and_unmatched_items,
     citations_in,
     citing_paragraphs_in,
 )
+from harness.calls import ProgramCall  # noqa: E402
 
 PAGE = """# The sender
 Before all (RFC 1, section 1)
@@ -153,3 +155,12 @@ def test_sections_steps_and_names_are_read() -> None:
 
 def test_of_this_tree_as_it_is_nothing_is_affected() -> None:
     assert not list(affected_paragraphs_and_unmatched_items(TOP, TOP))
+
+
+@pytest.mark.parametrize(
+    ("arguments", "most"),
+    [((), b"4104"), ((b"--explain",), b"4192"), ((b"--explain", b"--json"), b"4192"), ((b"--trace",), b"4104")],
+)
+def test_what_is_explained_may_be_longer(arguments: tuple[bytes, ...], most: bytes) -> None:
+    start = encode_program_call_with_output_limit(ProgramCall("pdregress", arguments, b"show"))
+    assert list(leading_length_prefixed_parts(start)) == [b"\0".join([b"pdregress", *arguments]), b"show", most]

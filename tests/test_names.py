@@ -15,6 +15,12 @@ def test_one_noun_names_one_type_and_no_private_word_is_left() -> None:
     assert (found.stdout, found.stderr, found.returncode) == ("", "", 0)
 
 
+def test_a_word_that_a_file_may_have_may_begin_a_sentence_there() -> None:
+    files = [ScannedText("a.md", "It is told.\nTold.\n"), ScannedText("b.md", "Told.\n")]
+    found = words_to_avoid_in_prose_of(files, {"told": "reported"}, {"a.md: told": "as it prints it"})
+    assert list(found) == [("b.md:1", "Told (reported)")]
+
+
 def test_a_word_to_avoid_may_begin_a_sentence() -> None:
     found = words_to_avoid_in_prose_of([ScannedText("a.md", "So.\nTold, or `Told`.\n")], {"told": "reported"}, {})
     assert list(found) == [("a.md:2", "Told (reported)")]

@@ -1,4 +1,7 @@
-"""Tests of what ./prove keeps: the definitions of a crate, the commit of programs, and how long proofs take."""
+"""Tests of what ./prove keeps: the definitions of a crate, the commit of programs, and how long proofs take.
+
+And of what it says about a contract that is refused.
+"""
 
 import os
 import subprocess
@@ -7,6 +10,7 @@ from pathlib import Path
 import pytest
 
 import changed_rules
+import cited
 import last_proved
 import proofs
 
@@ -74,3 +78,10 @@ def test_memory_that_the_group_of_processes_has_taken_is_not_free(monkeypatch: p
     assert proofs.free_memory() == 5_120
     del found["/sys/fs/cgroup/memory.max"]
     assert proofs.free_memory() == 9_216
+
+
+def test_a_contract_that_names_no_definition_cites_nothing(tmp_path: Path) -> None:
+    file = tmp_path / "lib.rt"
+    file.write_text("fn f(a: u8) -> u8\n    ensures { result ≡ a }\n{\n    a + 1\n}\n")
+    lines = cited.render_contract_around_line_with_citations(file, 4, cited.Definitions([]), tmp_path)
+    assert list(lines) == ["  the contract of f:", "    ensures { result ≡ a }"]

@@ -54,6 +54,7 @@ def test_the_version_is_the_release_only_where_its_tag_is(tmp_path: Path) -> Non
     (tmp_path / "CHANGELOG.md").write_text("# Changelog\n\n## 1.2.3\n\nMore.\n")
     assert output(tool, "--version") == f"1.2.3+git20260102.{git(tmp_path, 'rev-parse', '--short=10', 'HEAD')}.dirty\n"
     git(tmp_path, "commit", "-qam", "y")
+    git(tmp_path, "tag", "v1.2.2")
     assert output(tool, "--version") == f"1.2.3+git20260102.{git(tmp_path, 'rev-parse', '--short=10', 'HEAD')}\n"
 
 

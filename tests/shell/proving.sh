@@ -185,6 +185,7 @@ test_edits() {
     anew
     expect both-bases-are-kept "$(printf 'commit\npdrecord\npdregress\nstatus 0')" bases
     expect bases-stay-where-a-library-is-proved "$(printf 'commit\npdrecord\npdregress\nstatus 0')" bases_beside_a_library
+    expect bases-stay-where-one-has-changed "$(printf 'commit\npdrecord\npdregress\nstatus 0')" bases_beside_a_change
 }
 
 gate() { # what the gate says, and which programs count as proved after it
@@ -242,6 +243,14 @@ bases_beside_a_library() { # what is kept for a comparison after an edit, once t
     quietly high
     (cd "$(python3 -B "$build/tools/last_proved.py")" && ls)
     echo 'fn f() {}' >"$high"
+}
+
+bases_beside_a_change() { # what is kept for a comparison after an edit of one program, once a library is proved
+    quietly
+    echo '// an edit' >>"$build/crates/pdrecord/src/main.rt"
+    quietly high
+    (cd "$(python3 -B "$build/tools/last_proved.py")" && ls)
+    : >"$build/crates/pdrecord/src/main.rt"
 }
 
 quick() { # COMMAND.. on a machine that took next to no time for each crate
