@@ -108,6 +108,10 @@ handed_on() { # ARGUMENT..: the arguments that ./check gives its steps
     cat "$work/handed"
 }
 
+steps_begun() { # ARGUMENT..: how many steps ./check begins
+    handed_on "$@" 2>/dev/null | wc -l
+}
+
 stepped() { # WHY PASSED FAILED: the last lines where a step is at fault
     printf 'check: tests/run runs %s\n%s passed, %s failed\nstatus 1' "$@"
 }
@@ -134,6 +138,7 @@ test_check() {
     expect check-tests-hands-on-its-options "$(printf '%s\n' 'packages.sh --no-install' 'run --unproved' 'shell.sh --unproved' \
         'run tests/test_[!k]*.py' 'client.sh --unproved --no-install' 'documents.py --pages'; echo status 0)" handed_on tests --no-install
     expect check-a-step-is-none "$(printf 'status 2')" check_steps 0 runs none
+    expect check-looks-at-all-steps-first "$(printf '0\nstatus 0')" steps_begun runs none
     expect check-no-word "$(printf '0 passed, 1 failed\nstatus 1')" check_steps 1 ''
 }
 
