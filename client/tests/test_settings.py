@@ -115,6 +115,8 @@ BROKEN = [
     (b"mss = 1\n\xff = 1", "a/pdsuite.toml:2: no TOML: octet 0xff is no UTF-8"),
     (b"\xef\xbb\xbfmss = 1", "a/pdsuite.toml:1: no TOML: a byte order mark; a file of settings begins without one"),
     (b"a = 1\nb = rfc6928", "a/pdsuite.toml:2: no TOML: Invalid value (at line 2, column 5): a word stands in quotes"),
+    (b"mss = 1\na = [1,\n\n", "a/pdsuite.toml:2: no TOML: Invalid value (at end of document)"),
+    (b"mss = 1\r\na = [1, \r\n \r\n", "a/pdsuite.toml:2: no TOML: Invalid value (at end of document)"),
     (b"a = " + b"[" * 100_000, "a/pdsuite.toml:1: no TOML: "),
     (b"a = " + b"9" * 5_000, "a/pdsuite.toml:1: no TOML: "),
     (b"root = 1", "a/pdsuite.toml:1: root: BadValue: it takes true or false"),

@@ -274,7 +274,7 @@ def _line_of_toml_error(error: ValueError | RecursionError, octets: bytes) -> in
     if isinstance(error, UnicodeDecodeError):
         return octets.count(b"\n", 0, error.start) + 1
     if _AT_END in str(error):
-        return octets.rstrip(b"\n").count(b"\n") + 1
+        return octets.rstrip().count(b"\n") + 1
     found = _AT.search(str(error))
     return 1 if found is None else int(found[1])
 
