@@ -250,6 +250,17 @@ def test_a_missing_packet_has_an_outline_alone_and_its_moments() -> None:
     assert [it.is_later for it in found.segments] == [False, True]
 
 
+def test_a_packet_that_left_early_fails_when_it_left() -> None:
+    script = "0 write(3, ..., 1) = 1\n+0.1~+0.3 > P. 1:2(1) ack 1\n"
+    cause = {
+        **{"script_packet": "+0.1~+0.3 > P. 1:2(1) ack 1", "awaited_from_us": 100_000, "awaited_until_us": 300_000},
+        **{"actual_packet": "+0.05 > P. 1:2(1) ack 1 win 511 // 0.050000", "sent_us": 50_000},
+    }
+    failing = failing_line_of(script, 2, cause)
+    assert failing is not None and failing.expected is not None
+    assert (failing.moment, failing.expected.first, failing.expected.last) == (50_000, 100_000, 300_000)
+
+
 def test_a_call_that_fails_has_no_packet() -> None:
     failing = failing_line_of("0 close(3) = 0\n+1 close(3) = 1\n", 2, {"call": "+1 close(3) = 1"})
     assert failing is not None

@@ -226,3 +226,11 @@ def test_no_line_is_cut_within_an_escape(torn: int) -> None:
     assert explanation_lines_below_first({"reason_words": f"{kept}\\xC3\\xA9 and more".removeprefix("reason: ")}) == (
         f"{kept}..",
     )
+
+
+@pytest.mark.parametrize("torn", range(1, 4))
+def test_what_is_shown_of_a_line_begins_behind_the_escape_that_this_would_tear(torn: int) -> None:
+    """It begins 100 octets before a mark that is far along the line."""
+    text = f"{'x' * (200 - torn)}\\xC3{'y' * 300}"
+    shown, mark = explanation_lines_below_first({"text": text, "column": 300})
+    assert (shown, mark) == (f"..{'y' * 198}..", f"{' ' * (98 + torn)}^")

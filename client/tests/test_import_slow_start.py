@@ -40,6 +40,13 @@ LIMITS = {
         + "+.01 < . 1:1(0) ack 3001 win 257\n+0 > . 12001:14001(2000) ack 1\n",
         1,
     ),
+    # No ACK with another window is a duplicate.
+    "windows": (
+        SENT
+        + "".join(f"+.01 < . 1:1(0) ack 1 win {win}\n" for win in (258, 259, 260))
+        + "+.1 < . 1:1(0) ack 2001 win 257\n+0 > . 10001:13001(3000) ack 1\n",
+        1,
+    ),
     "a loss": (
         SENT + "+.1 < . 1:1(0) ack 1 win 257 <sack 1001:4001,nop,nop>\n+0 > . 1:1001(1000) ack 1\n"
         "+.1 < . 1:1(0) ack 10001 win 257\n+0 > . 10001:11001(1000) ack 1\n",

@@ -110,6 +110,11 @@ def test_snippets_are_plain_where_the_client_has_none() -> None:
     assert without[0]["textEdit"]["newText"].startswith("0 socket(..., SOCK_STREAM, IPPROTO_TCP) = 3\r\n+0 bind")
 
 
+def test_an_editor_sorts_proposals_as_they_come() -> None:
+    items = completion_items(list(proposals_for_every_setting_key()), DocumentLines(""), 0, True)
+    assert len(items) > 10 and sorted(items, key=lambda it: str(it["sortText"])) == items
+
+
 def test_keys_are_proposed_with_their_defaults() -> None:
     assert [it.put for it in proposals_for_every_setting_key()][0] == "mss = ${1:1460}"
 

@@ -90,6 +90,14 @@ def test_only_written_fields_are_taken(event: str, after: str) -> None:
     assert action.text == f"// x\n{after} // y\n"
 
 
+def test_flags_in_another_order_stay() -> None:
+    event, sent = "+0 > PF. 1:501(500) ack 1", SENT.replace("P.", "FP.")
+    (action, *_) = actions_taking_actual_packet_or_result(
+        failing(f"{event}\n", Row(Verdict.FAIL, 1, "seq"), script_packet=event, actual_packet=sent)
+    )
+    assert action.text == "+0 > PF. 1:1001(1000) ack 1\n"
+
+
 def test_options_that_are_lacking_are_added() -> None:
     sent = "+0 > S. 0:0(0) ack 1 win 9 <mss 1460> // 0.100000"
     event = "+0 > S. 0:0(0) ack 1"

@@ -14,6 +14,7 @@ from pdsuite.measure.paths import HEADER, NetworkPath, load_network_paths_matchi
 from pdsuite.measure.transfer import SegmentDeparture, SenderReply, Transfer, TransferResult
 from pdsuite.measure.transfer import play_transfer_as_generator
 from pdsuite.measure.transfer_batch import TransferOutcome, UnfinishedTransferError, play_transfers
+from pdsuite.measure.writer import TransferWriter
 from pdsuite.packetdrill.items import Packet
 from pdsuite.programs.recorder import TRACE, record_texts
 from pdsuite.programs.trace import traced_events_in
@@ -258,6 +259,14 @@ def test_a_program_writes_on_as_the_buffer_has_room(programs: Path) -> None:
         (found,) = map(whole, play_transfers(small, programs / "pdregress", (("sndbuf", 16_384),), stop))
     check(WIDE, 100_000, found)
     assert sum(" write(" in f" {it}" for it in found.lines) > 6
+
+
+def test_a_write_that_found_too_little_room_is_completed_before_the_next() -> None:
+    writer = TransferWriter(replace(WIDE, write=3_000, write_every_us=1_000), 9_000, 4_000)
+    assert [list(writer.take_due_write_sizes(it)) for it in (0, 1_000)] == [[3_000], []]
+    for number, octets in ((1_001, 2_000), (5_001, 1_000)):
+        writer.note_acknowledged_and_start_next_part(2_000, number)
+        assert list(writer.take_due_write_sizes(2_000)) == [octets]
 
 
 # ---- what can't be played

@@ -180,6 +180,17 @@ def test_of_a_folder_that_moved_another_line_is_another_row() -> None:
     assert lines[:2] == ["a/ moved to b/: 1 script, 1 with another row", "b/x.pkt:3: fail seq"]
 
 
+def test_a_line_that_fails_as_before_is_shown_where_it_has_another_text() -> None:
+    before, after = ({"x.pkt": ScriptOutcome("x.pkt", (), FAIL, it)} for it in (b"+0 close(4) = 7", b"+0 close(4) = 8"))
+    assert shown(before, before) == ["total 1 fail 1 in 0.01 s"]
+    assert shown(before, after) == [
+        "x.pkt:2: fail seq",
+        "x.pkt:2: fail seq",
+        "  +0 close(4) = 8",
+        "total 1 fail 1 in 0.01 s",
+    ]
+
+
 MOVES = [
     (["a/x", "a/in/y"], ["b/x", "b/in/y"], [("a", "b", 2)]),
     (["a/in/x", "a/z"], ["b/in/x", "a/z"], [("a/in", "b/in", 1)]),
