@@ -2,7 +2,7 @@
 """Prints what to read to believe a promise: the files with their lines, from the highest crate down, the nearest first.
 
     tools/reading_list.py headline       the rows that a report shows, and their calls
-    tools/reading_list.py octets         what the program writes
+    tools/reading_list.py octets         what the program writes to its output
     tools/reading_list.py FUNCTION..     public functions, as pd_cli::run, or clauses of them, as Book::show.whole,parts
 
 Words are followed by imports, not into the kit's libraries. A type with private fields is the value that contracts see.

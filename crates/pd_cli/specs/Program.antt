@@ -62,7 +62,7 @@ Finishes failed exit workers report_options text input out_before out_after err_
     × ((jobs : List FinishedJob) × (lines : List ℕ) × AreNumbered 0 jobs × IfSome input (AreJobsOfRun workers (settings_in text) end jobs) × AreReportedUnlessFailed exit.stderr_ok report_options jobs lines × WritesTo exit.stderr_ok err_before err_after (lines ++ stderr_of end))
     × ((octets : List ℕ) × Appends out_before out_after octets × IfSome input (Runs failed workers (settings_in text) end octets))
 
--- the same of the output alone, for who doesn't want to read what is reported of jobs
+-- the same of the output alone, for a reader who leaves out the reports of jobs
 abbrev pub FinishesOutput : Type 0 → Exit → ℕ → List ℕ → Option (List ℕ) → Option (List ℕ) → Option (List ℕ) → Type 0
 FinishesOutput failed exit workers text input out_before out_after =
     (end : Result Bool ProgramFault) × (exit.status ≡ status_of end)

@@ -61,7 +61,7 @@ failure_texts (failed.Packet packets) origin =
 failure_texts (failed.Missing packet) origin = (codes "script packet: " ++ packet.script.items) ∷ []
 failure_texts _ origin = []
 
--- those of a cause; the packet that was sent is the oldest unmatched one
+-- those of a cause; the first origin is that of the packet that was sent
 abbrev pub packet_texts : Cause → List (List ℕ)
 packet_texts (cause.Failed f) = failure_texts f.failed (slice_get f.origins.items 0)
 packet_texts _ = []

@@ -20,7 +20,9 @@
 //!
 //! The cause is that of the event, or of the text, that the verdict names: `IsCause`
 //! (specs/Explained.antt). The origin of a packet is the input or the timer in whose step it was
-//! put out, and nothing else: the law `law_packet_has_at_most_one_origin`.
+//! put out, and nothing else: the law `law_packet_has_at_most_one_origin`. The lines of an
+//! explanation begin with its heading and have those of the packets that were compared:
+//! `IsExplanationText` (specs/BlockLines.antt).
 //!
 //! Why it is so:
 //! - A run notes nothing for its explanation. It is run again when somebody asks for a reason, and
