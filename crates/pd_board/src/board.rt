@@ -1,4 +1,4 @@
-//! The scoreboard of a sender.
+//! The scoreboard of a sender: which octets were sent, which are SACKed, and which count as lost.
 ghost use Rattle.std.specs.Prelude.{◌≡◌, ◌+◌, ◌≤◌, ◌<◌, ◌^◌, true, false, IfOk, OnOk, OnErr, IsErr, ◌↔◌};
 ghost use Rattle.pd_board.specs.Board.{IsBoardView, opened, written, sent_to, acknowledged, with_sacked_block, has_new, with_none_sacked, past_sacked_octets, without_memory};
 ghost use Rattle.pd_board.specs.Loss.{is_lost, pipe, sacked_octets, undelivered_octets, lost_edge, sacked_above, runs_above};

@@ -1,4 +1,4 @@
-//! Octets as half-open ranges.
+//! A set of octets as sorted half-open ranges that don't touch; `insert` answers whether an octet was new.
 ghost use Rattle.std.specs.Prelude.{◌≡◌, ℕ, ◌≤◌, ◌<◌, ◌^◌, [], ◌&&◌, ◌||◌, not, nat_le, nat_lt, OnOk, OnErr, IfOk, drop};
 ghost use Rattle.std.specs.List.{list_any};
 ghost use Rattle.pd_board.specs.Octets.{interval};

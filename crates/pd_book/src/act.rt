@@ -1,4 +1,4 @@
-//! Acts: what a book records.
+//! Acts: what a book records. A copy of an act shares its name, text and edit, and takes no memory.
 ghost use Rattle.std.specs.Prelude.{◌≡◌, ◌↔◌, IfOk, IsTrue};
 
 use crate::shared_edit::SharedEdit;

@@ -1,4 +1,4 @@
-//! The book: scripts that are edited, and what is shown of them.
+//! The book: scripts and settings, whose changes are recorded as acts, and the report that it shows without an act.
 ghost use Rattle.std.specs.Prelude.{◌≡◌, ◌+◌, ◌≤◌, [], reverse, length, OnOk, OnErr, IfOk, IfErr, IfSome, IsSomeAnd, None, Some, option_copied};
 ghost use Rattle.pd_text.specs.Edit.{edited};
 ghost use Rattle.pd_text.specs.Text.{AreLines};

@@ -1,4 +1,4 @@
-//! Why a book refuses a call.
+//! Why a book refuses a call: faults, each printed as its number and name.
 ghost use Rattle.std.specs.Prelude.{◌≡◌};
 ghost use Rattle.pd_book.specs.Faults.{fault_text, finish_fault_text};
 

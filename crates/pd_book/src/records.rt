@@ -106,7 +106,7 @@ impl Records {
         ensures tasks { self.new.tasks.items ≡ without number self.old.tasks.items }
         ensures scripts { self.new.scripts ≡ make_pending_if_running_task (find (λ task. number == task.number) self.old.tasks.items) self.old.scripts }
     {
-        if let Some(task) = find_task_by_number(self.tasks.as_slice(), number) {
+        if let Some(task) = task_with_number_if_any(self.tasks.as_slice(), number) {
             self.scripts.make_pending_if_running_task(task);
         }
         remove_task_by_number(&mut self.tasks, number);
@@ -132,7 +132,7 @@ fn push_task(tasks: &mut Vec<Task>, task: Task)
 }
 
 /// The task of this number.
-pub fn find_task_by_number(tasks: &[Task], number: u64) -> Option<&Task>
+pub fn task_with_number_if_any(tasks: &[Task], number: u64) -> Option<&Task>
     ensures { option_copied result ≡ find (λ task. number == task.number) tasks.now }
 {
     tasks.iter().find(|task| number == task.number)

@@ -1,4 +1,4 @@
-//! The scripts that stand, in order of adding.
+//! The scripts that stand, found by their names and kept in order of adding.
 ghost use Rattle.std.specs.Prelude.{◌≡◌, ◌++◌, ◌∷◌, [], length, is_some, is_none, map, find, count_by, IfOk, OnOk, OnErr, option_map, None, Some};
 ghost use Rattle.std.specs.Option.{option_copied};
 ghost use Rattle.std.specs.List.{IsDistinct};
@@ -160,7 +160,7 @@ impl Scripts {
     {
         let mut rows = Vec::with_capacity(alloc, self.by_name.len())?;
         for (name, script) in self.by_name.iter() {
-            rows.push(report_row_of_script(name, script)?)?;
+            rows.push(row_with_name_text_and_verdict(name, script)?)?;
         }
         Ok(rows)
     }
@@ -212,7 +212,7 @@ impl Scripts {
 }
 
 /// The row of a script.
-fn report_row_of_script(name: &Name, script: &StoredScript) -> Result<Row, AllocError>
+fn row_with_name_text_and_verdict(name: &Name, script: &StoredScript) -> Result<Row, AllocError>
     ensures { IfOk result (λ row. row ≡ kept_row (name.now, script.now)) }
 {
     Ok(Row {

@@ -1,4 +1,4 @@
-//! The tracks that a book keeps, one under a name.
+//! The tracks that a book keeps, one under a name; the one last removed or evicted is set aside, to be freed elsewhere.
 ghost use Rattle.std.specs.Prelude.{◌≡◌, ◌⊎◌, ◌≤◌, [], option_copied, OnOk, OnErr, if◌then◌else◌};
 ghost use Rattle.std.specs.NonZero.{non_zero_usize_get};
 ghost use Rattle.std.specs.Str.{bytes_eq};

@@ -1,5 +1,5 @@
 -- The reports of jobs, and the end of a run that prints them.
-use Rattle.std.proofs.Common.{◌≡◌, ◌⊎◌, ◌==◌, ◌||◌, ℕ, Bool, true, false, List, [], ◌∷◌, ◌++◌, length, bytes_eq, codes, Bor, Option, Some, None, Result, Ok, Err, IfSome, ◌≤◌, arith, zero, suc, refl, sym, ap, subst, ◌∙◌, append_assoc, append-nil}
+use Rattle.std.proofs.Common.{◌≡◌, ◌⊎◌, ◌==◌, ◌||◌, ℕ, Bool, true, false, List, [], ◌∷◌, ◌++◌, length, bytes_eq, codes, Bor, Option, Some, None, Result, Ok, Err, IfSome, if◌then◌else◌, ◌≤◌, arith, zero, suc, refl, sym, ap, subst, ◌∙◌, append_assoc, append-nil}
 use Rattle.std.specs.Io.KnownBytes.{Appends}
 use Rattle.std.specs.List.{list_any}
 use Rattle.std.proofs.lemmas.List.{length-map}
@@ -19,9 +19,9 @@ use Rattle.pd_protocol.proofs.Known.{appends_none}
 use Rattle.pd_cli.specs.ExplanationBlocks.{IsBlockOf, is_selected_or_none_selected}
 use Rattle.pd_cli.specs.Program.{Runs, end_of, status_of, stderr_of, Finishes, FinishesOutput}
 use Rattle.pd_cli.specs.StartedJobs.{AreJobsOfRun, AreStartedBy}
-use Rattle.pd_cli.specs.StepLines.{FinishedJob, AreNumbered, step_line, step_lines}
+use Rattle.pd_cli.specs.StepLines.{FinishedJob, AreNumbered, step_line, step_lines, rule_lines_of, rule_lines_of_jobs}
 use Rattle.pd_cli.specs.Observed.{ObservesAll, WritesMore}
-use Rattle.pd_cli.specs.Reported.{IsReport, ReportsJob, AreReportedUnlessFailed, NothingIsReported, StepsAreReported, BlocksAreReported}
+use Rattle.pd_cli.specs.Reported.{IsExplained, IsReport, ReportsJob, AreReportedUnlessFailed, NothingIsReported, StepsAreReported, RulesAreReported, BlocksAreReported}
 use Rattle.pd_cli.proofs.Ending.{memory_runs, settings_out}
 
 -- nothing was written
@@ -102,6 +102,17 @@ reports_still report_options stderr_ok w job e = rw e (refl, refl)
 pub reports_now : (report_options : ReportOptions) (before stderr_ok : Bool) (w w1 : Option (List ℕ)) (job : FinishedJob) (lines : List ℕ) → before ≡ true → IsReport report_options job lines → WritesTo stderr_ok w w1 lines → ReportsJob report_options before stderr_ok w w1 job
 reports_now report_options before stderr_ok w w1 job lines e r s = rw e (lines, r, s)
 
+-- a report, part by part
+pub reported_as_asked : (report_options : ReportOptions) (job : FinishedJob) (none stepped ruled block lines : List ℕ) → none ≡ []
+    → stepped ≡ none ++ (if report_options.steps then step_line job else [])
+    → ruled ≡ stepped ++ (if report_options.rules then rule_lines_of job.task else [])
+    → IsExplained report_options.explain job block → lines ≡ ruled ++ block → IsReport report_options job lines
+reported_as_asked report_options job none stepped ruled block lines n s r h e =
+    let steps : List ℕ = if report_options.steps then step_line job else [] in
+    let rules : List ℕ = if report_options.rules then rule_lines_of job.task else [] in
+    let first : stepped ≡ steps = s ∙ ap (λ (l : List ℕ). l ++ steps) n in
+    (block, e ∙ (ap (λ (l : List ℕ). l ++ block) (r ∙ ap (λ (l : List ℕ). l ++ rules) first) ∙ append_assoc steps rules block), h)
+
 -- what is reported where one thing is asked for, or nothing
 
 joined : (line first block rest lines stderr_ok : List ℕ) → stderr_ok ≡ first ++ rest → first ≡ line ++ block → block ≡ [] → rest ≡ lines → stderr_ok ≡ line ++ lines
@@ -114,6 +125,10 @@ nothing_told (job ∷ jobs) octets (first, rest, e, m, r) = joined [] first m.0 
 pub steps_told : StepsAreReported
 steps_told [] octets h = h
 steps_told (job ∷ jobs) octets (first, rest, e, m, r) = joined (step_line job) first m.0 rest (step_lines jobs) octets e m.1 m.2 (steps_told jobs rest r)
+
+pub rules_told : RulesAreReported
+rules_told [] octets h = h
+rules_told (job ∷ jobs) octets (first, rest, e, m, r) = joined (rule_lines_of job.task) first m.0 rest (rule_lines_of_jobs jobs) octets e m.1 m.2 (rules_told jobs rest r)
 
 pub blocks_told : BlocksAreReported
 blocks_told explaining [] octets h = h

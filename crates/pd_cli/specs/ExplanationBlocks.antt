@@ -5,10 +5,10 @@ use Rattle.pd_track.specs.declared.task.Task.{Task}
 use Rattle.pd_run.specs.Run.{verdict_of}
 use Rattle.pd_run.specs.declared.verdict.Verdict.{Verdict}
 use Rattle.pd_explain.specs.BlockLines.{IsExplanationText, IsLeftoversText}
-use Rattle.pd_explain.specs.Explained.{IsCause, line_unless_pass}
-use Rattle.pd_explain.specs.Leftovers.{IsLeftovers, is_pass}
-use Rattle.pd_explain.specs.declared.explain_verdict.Explanation.{Explanation}
-use Rattle.pd_explain.specs.declared.leftovers.Leftovers.{Leftovers}
+use Rattle.pd_cause.specs.Explained.{IsCause, line_unless_pass}
+use Rattle.pd_cause.specs.Leftovers.{IsLeftovers, is_pass}
+use Rattle.pd_cause.specs.declared.explain_verdict.Explanation.{Explanation}
+use Rattle.pd_cause.specs.declared.leftovers.Leftovers.{Leftovers}
 use Rattle.pd_protocol.specs.ChosenOptions.{Explaining}
 use Rattle.pd_cli.specs.StepLines.{FinishedJob}
 

@@ -2,15 +2,13 @@
 ghost use Rattle.std.specs.Prelude.{◌≡◌, bytes_eq, true, false, [], IfOk};
 ghost use Rattle.std.specs.List.{list_any};
 ghost use Rattle.pd_explain.specs.BlockLines.{IsExplanationText, IsLeftoversText};
-ghost use Rattle.pd_explain.specs.Leftovers.{is_pass};
+ghost use Rattle.pd_cause.specs.Leftovers.{is_pass};
 ghost use Rattle.pd_protocol.specs.ChosenOptions.{explaining_of, names_of};
 ghost use Rattle.pd_cli.specs.ExplanationBlocks.{IsBlockOf, IsFailureBlock, IsPassBlock, is_selected_or_none_selected, verdict_of_task};
 
 use pd_book::Done;
-use pd_explain::{
-    Explanation, Leftovers, explain_job_unless_pass, explanation_json, explanation_text,
-    find_leftovers_if_passes, leftovers_json, leftovers_text,
-};
+use pd_cause::{Explanation, Leftovers, explain_job_unless_pass, find_leftovers_if_passes};
+use pd_explain::{explanation_json, explanation_text, leftovers_json, leftovers_text};
 use pd_protocol::ExplainOptions;
 use pd_run::Verdict;
 use pd_text::Name;
@@ -53,13 +51,18 @@ fn render_failure_as_json_or_text(
     ensures { IfOk result (λ block. IsFailureBlock json done.now block.items) }
 {
     match explain_job_unless_pass(alloc, done)? {
-        Some(explanation) => render_explanation(alloc, json, done.name(), &explanation),
+        Some(explanation) => render_explanation_as_json_or_text(
+            alloc,
+            json,
+            done.name(),
+            &explanation,
+        ),
         None => Ok(Vec::new(alloc)),
     }
 }
 
 /// The block of an explanation, as JSON or as text.
-fn render_explanation(
+fn render_explanation_as_json_or_text(
     alloc: Global,
     json: bool,
     name: &Name,

@@ -1,6 +1,6 @@
 //! The laws of each history that serving goes through and of each report that it prints; the functions
 //! do nothing.
-ghost use Rattle.pd_cli.specs.Reported.{NothingIsReported, StepsAreReported, BlocksAreReported};
+ghost use Rattle.pd_cli.specs.Reported.{NothingIsReported, StepsAreReported, RulesAreReported, BlocksAreReported};
 ghost use Rattle.pd_cli.specs.Laws.{OutputGoesOn, StoriesAreLegal, SettlesPrintScratch, ShowsPrintPart, AloneIsPossibleBeside, SessionsArePossibleBeside, WritesAreOutput};
 
 use pd_book::{
@@ -25,10 +25,11 @@ pub fn law_settle_reports_from_scratch()
     law_settling_ends_with_none_pending();
 }
 
-/// Of jobs nothing is reported where nothing is asked for, a line of steps each where steps alone are, and a block each where
-/// explanations alone are.
+/// Of jobs nothing is reported where nothing is asked for, a line of steps each where steps alone are, the lines on its rules
+/// each where rules alone are, and a block each where explanations alone are.
 pub fn law_jobs_report_only_what_is_asked()
     ensures nothing { NothingIsReported }
     ensures steps { StepsAreReported }
+    ensures rules { RulesAreReported }
     ensures blocks { BlocksAreReported }
 {}

@@ -52,7 +52,7 @@ mod workers;
 pub use laws::{law_jobs_report_only_what_is_asked, law_settle_reports_from_scratch};
 pub use pd_protocol::{
     Exit, ExplainOptions, InputStream, Options, ProgramFault, ServeFault, arguments, options,
-    write_arguments_unreadable_and_return_exit, write_clap_error_and_return_fault_exit,
+    write_arguments_unreadable_and_return_exit, write_clap_error_to_err_and_return_fault_exit,
 };
 pub use program::{PROGRAM, run, run_alone};
 pub use report_text::render;

@@ -21,7 +21,8 @@ use pd_book::{Book, law_verdicts_are_of_current_runs};
 use pd_desk::OpenGate;
 use pd_protocol::{
     Exit, FAULT_STATUS, InputStream, Options, ProgramFault, ServeFault, options,
-    settings_from_toml, write_clap_error_and_return_fault_exit, write_fault_and_return_fault_exit,
+    settings_from_toml, write_clap_error_to_err_and_return_fault_exit,
+    write_fault_and_return_fault_exit,
 };
 use pd_settings::Settings;
 use std::alloc::Global;
@@ -54,7 +55,9 @@ pub fn run<H: Threads + Wait + Sync, S: AsStr, R: InputStream, W: Write, E: Writ
 {
     let chosen = match options(alloc, words) {
         Ok(options) => options,
-        Err(error) => return write_clap_error_and_return_fault_exit(alloc, PROGRAM, &error, err),
+        Err(error) => return write_clap_error_to_err_and_return_fault_exit(
+            alloc, PROGRAM, &error, err,
+        ),
     };
     if chosen.workers == 0 {
         return run_alone(alloc, &chosen, reader, out, err);

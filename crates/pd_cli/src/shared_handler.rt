@@ -10,7 +10,7 @@ use crate::handler::CommandHandler;
 use crate::local_handler::refusal_line;
 use crate::report_text::render;
 use crate::settle::all_pass;
-use crate::verify_report::check_report_matches_own_book;
+use crate::verify_report::check_same_scripts_and_settings_as_own;
 use pd_book::{Act, Book, BookFault, SharedEdit};
 use pd_desk::Desk;
 use pd_protocol::{Command, ServeFault};
@@ -117,7 +117,7 @@ impl<'a, H: Wait> CommandHandler for SharedHandler<'a, H> {
             .desk
             .show(self.rt, self.seat)
             .map_err(serve_fault_of_show)?;
-        check_report_matches_own_book(&self.own, &report)?;
+        check_same_scripts_and_settings_as_own(&self.own, &report)?;
         Ok(render(self.alloc, &report)?)
     }
 
@@ -126,7 +126,7 @@ impl<'a, H: Wait> CommandHandler for SharedHandler<'a, H> {
             .desk
             .settle(self.rt, self.seat)
             .map_err(serve_fault_of_desk)?;
-        check_report_matches_own_book(&self.own, &report)?;
+        check_same_scripts_and_settings_as_own(&self.own, &report)?;
         let octets = render(self.alloc, &report)?;
         Ok((octets, all_pass(&report)))
     }

@@ -12,7 +12,10 @@ use pd_protocol::{Command, ServeFault};
 ///
 /// # Errors
 /// `Differs` where the settings, the names or the texts do.
-pub(crate) fn check_report_matches_own_book(own: &Book, report: &Report) -> Result<(), ServeFault>
+pub(crate) fn check_same_scripts_and_settings_as_own(
+    own: &Book,
+    report: &Report,
+) -> Result<(), ServeFault>
     ensures part { OnOk result (IsPartOf own.now.history report.now) }
     ensures whole { OnOk result (IsCurrent report.now → report.now ≡ from_scratch own.now.history) }
     ensures scratch { OnOk result (IsCurrent report.now → IsScratchOf own.now.history report.now) }
@@ -32,11 +35,11 @@ fn has_same_scripts_and_settings(report: &Report, other: &Report) -> bool
     ensures same { IsTrue result ↔ IsOfSame report.now other.now }
     ensures runs { All (IsRunUnder report.now.settings) report.now.rows }
 {
-    let same_rows = have_same_scripts(report.rows(), other.rows());
+    let same_rows = have_same_names_and_texts(report.rows(), other.rows());
     same_rows && report.settings().is_same(&other.settings())
 }
 
-fn have_same_scripts(rows: &[Row], others: &[Row]) -> bool
+fn have_same_names_and_texts(rows: &[Row], others: &[Row]) -> bool
     ensures { IsTrue result ↔ (scripts_of rows.now ≡ scripts_of others.now) }
 {
     let mut rows = rows;

@@ -1,4 +1,4 @@
-//! Serving with workers in threads of their own.
+//! Opening a desk, and serving at a seat of it in the calling thread, with workers in threads of their own.
 ghost use Rattle.std.specs.Prelude.{◌≡◌, ◌≤◌};
 ghost use Rattle.pd_cli.specs.Beside.{ServesBeside};
 ghost use Rattle.pd_protocol.specs.Input.{HasCause};
@@ -52,12 +52,12 @@ pub fn serve<H: Threads + Wait + Sync, R: InputStream, W: Write, G: Gate + Sync>
     let (reader, writer, answer) = run_task_beside_workers_then_shut_desk(
         rt, alloc, &desk, gate, seats, task,
     );
-    law_returned_references_are_lent(reader, writer);
+    law_returned_references_are_those_lent(reader, writer);
     answer
 }
 
 /// Does nothing: its use ties references that come back to those that were lent.
-fn law_returned_references_are_lent<R, W>(reader: &mut R, writer: &mut W)
+fn law_returned_references_are_those_lent<R, W>(reader: &mut R, writer: &mut W)
     ensures { (reader.new ≡ reader.old) × (writer.new ≡ writer.old) }
 {}
 
@@ -72,7 +72,7 @@ trait ScopedTask {
         ensures { gives self result };
 
     /// Where no thread can be started, in its place.
-    fn output_on_spawn_failure(self) -> Self::Output
+    fn output_if_worker_threads_fail_to_start(self) -> Self::Output
         ensures { gives self result };
 }
 
@@ -118,7 +118,9 @@ impl<'a, H: Wait, R: InputStream, W: Write> ScopedTask for SeatServing<'a, H, R,
         (reader, writer, answer)
     }
 
-    fn output_on_spawn_failure(self) -> (&'a mut R, &'a mut W, Result<bool, ServeFault>) {
+    fn output_if_worker_threads_fail_to_start(
+        self,
+    ) -> (&'a mut R, &'a mut W, Result<bool, ServeFault>) {
         let SeatServing { reader, writer, .. } = self;
         (reader, writer, Err(ServeFault::OutOfMemory))
     }
@@ -140,9 +142,9 @@ fn run_task_beside_workers_then_shut_desk<
         |scope| -> A
             ensures { T.gives task result }
         {
-            let work = move || run_workers_at_seats(rt, alloc, desk, gate, workers);
+            let work = move || run_workers_at_seats_ignoring_faults(rt, alloc, desk, gate, workers);
             if scope.spawn(work).is_err() {
-                return task.output_on_spawn_failure();
+                return task.output_if_worker_threads_fail_to_start();
             }
             let answer = task.run();
             desk.shut(rt);
@@ -152,7 +154,7 @@ fn run_task_beside_workers_then_shut_desk<
 }
 
 /// Works at all of these seats.
-fn run_workers_at_seats<H: Threads + Wait + Sync, G: Gate + Sync>(
+fn run_workers_at_seats_ignoring_faults<H: Threads + Wait + Sync, G: Gate + Sync>(
     rt: &H,
     alloc: Global,
     desk: &Desk,

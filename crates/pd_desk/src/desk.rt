@@ -1,4 +1,4 @@
-//! The desk: a book under one lock, at which several callers have seats.
+//! The desk: a book under one lock, at which several callers have seats; `show` needs a seat that agrees with the history.
 ghost use Rattle.std.specs.Prelude.{◌≡◌, ◌≢◌, ◌≤◌, true, IfOk, IfErr, IfSome, IfNone, OnOk, OnErr, IsSomeAnd, Err};
 ghost use Rattle.pd_settings.specs.Keys.{key_named};
 ghost use Rattle.pd_book.specs.Replies.{GivesAdd, GivesEdit, GivesRemove, GivesSet, GivesStart, GivesFinish, GivesAbandon};
@@ -165,12 +165,12 @@ impl Desk {
         ensures room { is_unended seat.old.own done.now.number ≡ true → result ≢ Err FinishFault.OutOfMemory }
         ensures refuses { OnErr result (seat.new ≡ seat.old) }
     {
-        let (reply, _) = self.finish_and_whether_seat_agrees(rt, seat, done);
+        let (reply, _) = self.finish_and_whether_ok_or_seat_agrees(rt, seat, done);
         reply
     }
 
     /// Takes the result of an outstanding job; and whether the history agrees with the seat, as `Locked::finish` does.
-    pub(crate) fn finish_and_whether_seat_agrees<R: Wait>(
+    pub(crate) fn finish_and_whether_ok_or_seat_agrees<R: Wait>(
         &self,
         rt: &R,
         seat: &mut Seat,
@@ -183,7 +183,7 @@ impl Desk {
         ensures refuses { OnErr result.0 (seat.new ≡ seat.old) }
     {
         let mut locked = self.locked.lock(rt);
-        let ended = locked.finish_and_whether_seat_agrees(seat, done);
+        let ended = locked.finish_and_whether_ok_or_seat_agrees(seat, done);
         let evicted = locked.held.take_evicted_track_if_any();
         let is_verdict_awaited = locked.has_owed_verdict_and_remaining_worker();
         drop(locked);
@@ -204,12 +204,12 @@ impl Desk {
         ensures room { is_unended seat.old.own number ≡ true → result ≢ Err FinishFault.OutOfMemory }
         ensures refuses { OnErr result (seat.new ≡ seat.old) }
     {
-        let (reply, _) = self.abandon_and_whether_seat_agrees(rt, seat, number);
+        let (reply, _) = self.abandon_and_whether_ok_or_seat_agrees(rt, seat, number);
         reply
     }
 
     /// Gives up an outstanding job; and whether the history agrees with the seat, as `Locked::finish` does.
-    pub(crate) fn abandon_and_whether_seat_agrees<R: Wait>(
+    pub(crate) fn abandon_and_whether_ok_or_seat_agrees<R: Wait>(
         &self,
         rt: &R,
         seat: &mut Seat,
@@ -224,7 +224,7 @@ impl Desk {
         let ended = self
             .locked
             .lock(rt)
-            .abandon_and_whether_seat_agrees(seat, number);
+            .abandon_and_whether_ok_or_seat_agrees(seat, number);
         self.changed.notify_all();
         ended
     }

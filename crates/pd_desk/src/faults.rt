@@ -1,4 +1,4 @@
-//! Why a desk doesn't settle, and why a worker leaves.
+//! Why a desk doesn't settle, and why a worker leaves: faults, each printed as its number and name.
 ghost use Rattle.std.specs.Prelude.{◌≡◌};
 ghost use Rattle.pd_desk.specs.Faults.{desk_fault_text};
 

@@ -25,7 +25,7 @@ impl Locked {
     pub fn has_owed_verdict_and_remaining_worker(&self) -> bool
         ensures { IsTrue result ↔ ((self.now.worker_counts.left < self.now.worker_counts.size) × (0 < owed self.now.held.book.history.opening self.now.held.book.history.past)) }
     {
-        self.worker_counts.has_remaining_worker() && self.held.owed() > 0
+        self.worker_counts.has_worker_not_yet_left() && self.held.owed() > 0
     }
 
     /// Whether workers have nothing to do but to wait.
@@ -37,7 +37,7 @@ impl Locked {
 
     /// Takes the result of an outstanding job; and whether the history agrees with the seat, which is looked at only where
     /// the finish is refused.
-    pub fn finish_and_whether_seat_agrees(
+    pub fn finish_and_whether_ok_or_seat_agrees(
         &mut self,
         seat: &mut Seat,
         done: &Done,
@@ -54,7 +54,7 @@ impl Locked {
     }
 
     /// Gives up an outstanding job; and whether the history agrees with the seat, as `finish` does.
-    pub fn abandon_and_whether_seat_agrees(
+    pub fn abandon_and_whether_ok_or_seat_agrees(
         &mut self,
         seat: &mut Seat,
         number: u64,

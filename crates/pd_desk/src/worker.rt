@@ -166,7 +166,7 @@ impl Desk {
         ensures finished { OnOk result (EndsJob done.now seat.old seat.new) }
         ensures left { IfErr result (λ fault. (fault ≡ DeskFault.Differs) × LeavesJob seat.old seat.new) }
     {
-        let (_, agrees) = self.finish_and_whether_seat_agrees(rt, seat, done);
+        let (_, agrees) = self.finish_and_whether_ok_or_seat_agrees(rt, seat, done);
         if !agrees {
             return Err(DeskFault::Differs);
         }
@@ -184,7 +184,7 @@ impl Desk {
         requires started { is_unended seat.old.own number ≡ true }
         ensures { GivesUp number result seat.old seat.new }
     {
-        let (_, agrees) = self.abandon_and_whether_seat_agrees(rt, seat, number);
+        let (_, agrees) = self.abandon_and_whether_ok_or_seat_agrees(rt, seat, number);
         if !agrees {
             return DeskFault::Differs;
         }

@@ -54,7 +54,7 @@ impl WorkerCounts {
     }
 
     /// Whether a worker is in or may still enter.
-    pub fn has_remaining_worker(&self) -> bool
+    pub fn has_worker_not_yet_left(&self) -> bool
         ensures { IsTrue result ↔ self.now.left < self.now.size }
     {
         self.left < self.size

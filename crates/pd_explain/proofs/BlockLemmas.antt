@@ -5,12 +5,14 @@ use Rattle.std.specs.List.{list_all}
 use Rattle.std.proofs.lemmas.Bool.{and_from}
 use Rattle.std.proofs.lemmas.List.Folds.{list_all-append}
 use Rattle.std.proofs.lemmas.List.Concat.{flat_map-append}
-use Rattle.pd_explain.specs.Escape.{are_printable, escaped}
+use Rattle.pd_refusal.specs.Escape.{are_printable, escaped}
 use Rattle.pd_explain.specs.Headings.{IsPassHeading, heading}
-use Rattle.pd_explain.specs.BlockLines.{indented, IsLeftoversText, AreIndented, AreShown, IsBlock, ReportsTexts, Shows, sent_by_text}
-use Rattle.pd_explain.specs.declared.leftovers.Leftovers.{Leftovers}
-use Rattle.pd_explain.specs.declared.origins.Origin.{Origin}
-use Rattle.pd_explain.specs.declared.origins.Origin.TheVariants.{Line}
+use Rattle.pd_explain.specs.BlockLines.{indented, IsLeftoversText, AreIndented, AreShown, IsBlock, ReportsTexts, Shows, sent_by_text, trigger_text}
+use Rattle.pd_explain.specs.SendRules.{send_rule_words}
+use Rattle.pd_cause.specs.declared.leftovers.Leftovers.{Leftovers}
+use Rattle.pd_cause.specs.declared.origins.Origin.{Origin}
+use Rattle.pd_cause.specs.declared.origins.Trigger.{Trigger}
+use Rattle.pd_cause.specs.declared.origins.Trigger.TheVariants.{Line}
 use Rattle.pd_explain.specs.Inner.{AddsLines, AddsReport, AddsTexts, BeginsWith}
 
 -- none
@@ -138,9 +140,17 @@ pub all_reported : (texts : List (List ℕ)) (new : List ℕ) → AddsReport tex
 all_reported texts new r = subst (ReportsTexts texts) (sym r.added) r.reports
 
 -- the line of the input that sent a packet
-pub sent_by_line : (origin : Origin) (line : ℕ) (old mid new : List ℕ) → origin ≡ Line line → mid ≡ old ++ codes ", sent by line " → new ≡ mid ++ decimal line → new ≡ old ++ sent_by_text origin
-sent_by_line origin line old mid new o e f =
-    f ∙ (ap (λ (l : List ℕ). l ++ decimal line) e ∙ (append_assoc old (codes ", sent by line ") (decimal line) ∙ ap (λ (each : Origin). old ++ sent_by_text each) (sym o)))
+pub sent_by_line : (trigger : Trigger) (line : ℕ) (old mid new : List ℕ) → trigger ≡ Line line → mid ≡ old ++ codes ", sent by line " → new ≡ mid ++ decimal line → new ≡ old ++ trigger_text trigger
+sent_by_line trigger line old mid new o e f =
+    f ∙ (ap (λ (l : List ℕ). l ++ decimal line) e ∙ (append_assoc old (codes ", sent by line ") (decimal line) ∙ ap (λ (each : Trigger). old ++ trigger_text each) (sym o)))
+
+-- and the rule after that
+pub sent_by_rule : (origin : Origin) (old first second new : List ℕ) → first ≡ old ++ trigger_text origin.trigger → second ≡ first ++ codes ": " → new ≡ second ++ send_rule_words origin.rule
+    → new ≡ old ++ sent_by_text origin
+sent_by_rule origin old first second new d e f =
+    f ∙ (ap (λ (l : List ℕ). l ++ send_rule_words origin.rule) (e ∙ ap (λ (l : List ℕ). l ++ codes ": ") d)
+    ∙ (append_assoc (old ++ trigger_text origin.trigger) (codes ": ") (send_rule_words origin.rule)
+    ∙ append_assoc old (trigger_text origin.trigger) (codes ": " ++ send_rule_words origin.rule)))
 
 -- the first line of a block on a script that passes, with its words
 pub pass_heading : (name : List ℕ) (line : ℕ) (words octets : List ℕ) → octets ≡ heading name line (codes "pass") words → IsPassHeading name line octets

@@ -2,16 +2,18 @@
 use Rattle.std.specs.Prelude.{◌≡◌, ◌≤◌, true, ℕ, List, [], ◌∷◌, ◌++◌, length, codes, flat_map, slice_get, Option, Some, None}
 use Rattle.std.specs.Fmt.{decimal}
 use Rattle.std.specs.List.{list_all}
-use Rattle.pd_explain.specs.Escape.{are_printable, escaped}
+use Rattle.pd_refusal.specs.Escape.{are_printable, escaped}
+use Rattle.pd_explain.specs.SendRules.{send_rule_words}
 use Rattle.pd_explain.specs.Headings.{IsPassHeading, explanation_words, heading, verdict_name_with_kind}
-use Rattle.pd_explain.specs.declared.causes.Cause.{Cause}
-use Rattle.pd_explain.specs.declared.causes.Cause.TheVariants as cause
-use Rattle.pd_explain.specs.declared.causes.failure.Failed.{Failed}
-use Rattle.pd_explain.specs.declared.causes.failure.Failed.TheVariants as failed
-use Rattle.pd_explain.specs.declared.explain_verdict.Explanation.{Explanation}
-use Rattle.pd_explain.specs.declared.leftovers.Leftovers.{Leftovers}
-use Rattle.pd_explain.specs.declared.origins.Origin.{Origin}
-use Rattle.pd_explain.specs.declared.origins.Origin.TheVariants.{Line, Timer}
+use Rattle.pd_cause.specs.declared.causes.Cause.{Cause}
+use Rattle.pd_cause.specs.declared.causes.Cause.TheVariants as cause
+use Rattle.pd_cause.specs.declared.causes.failure.Failed.{Failed}
+use Rattle.pd_cause.specs.declared.causes.failure.Failed.TheVariants as failed
+use Rattle.pd_cause.specs.declared.explain_verdict.Explanation.{Explanation}
+use Rattle.pd_cause.specs.declared.leftovers.Leftovers.{Leftovers}
+use Rattle.pd_cause.specs.declared.origins.Origin.{Origin}
+use Rattle.pd_cause.specs.declared.origins.Trigger.{Trigger}
+use Rattle.pd_cause.specs.declared.origins.Trigger.TheVariants.{Line, Timer}
 
 -- lines, each indented by two spaces and ended by a newline
 abbrev pub indented : List (List ℕ) → List ℕ
@@ -43,10 +45,14 @@ ReportsTexts texts octets =
     (front : List ℕ) × (shown : List ℕ) × (back : List ℕ) × AreIndented front × AreShown texts shown × AreIndented back
     × (octets ≡ front ++ (shown ++ back))
 
--- the origin of a packet, after its text
+-- the trigger of a packet, after its text
+abbrev pub trigger_text : Trigger → List ℕ
+trigger_text Timer = codes ", sent by the timer"
+trigger_text (Line line) = codes ", sent by line " ++ decimal line
+
+-- the origin of a packet, after its text: its trigger, and the rule in words
 abbrev pub sent_by_text : Origin → List ℕ
-sent_by_text (Timer moment) = codes ", sent by the timer"
-sent_by_text (Line line) = codes ", sent by line " ++ decimal line
+sent_by_text origin = trigger_text origin.trigger ++ (codes ": " ++ send_rule_words origin.rule)
 
 -- the same where it is known
 abbrev pub origin_text : Option Origin → List ℕ

@@ -6,12 +6,12 @@ use Rattle.pd_match.specs.declared.kinds.Kind.{Kind}
 use Rattle.pd_match.specs.declared.kinds.Kind.TheVariants as kind
 use Rattle.pd_run.specs.declared.verdict.Verdict.{Verdict}
 use Rattle.pd_run.specs.declared.verdict.Verdict.TheVariants.{Pass, Fail, Syntax, Unsupported, Limit}
-use Rattle.pd_explain.specs.Escape.{escaped}
-use Rattle.pd_explain.specs.declared.causes.Cause.{Cause}
-use Rattle.pd_explain.specs.declared.causes.Cause.TheVariants as cause
-use Rattle.pd_explain.specs.declared.causes.failure.Failed.{Failed}
-use Rattle.pd_explain.specs.declared.causes.failure.Failed.TheVariants as failed
-use Rattle.pd_explain.specs.declared.explain_verdict.Explanation.{Explanation}
+use Rattle.pd_refusal.specs.Escape.{escaped}
+use Rattle.pd_cause.specs.declared.causes.Cause.{Cause}
+use Rattle.pd_cause.specs.declared.causes.Cause.TheVariants as cause
+use Rattle.pd_cause.specs.declared.causes.failure.Failed.{Failed}
+use Rattle.pd_cause.specs.declared.causes.failure.Failed.TheVariants as failed
+use Rattle.pd_cause.specs.declared.explain_verdict.Explanation.{Explanation}
 
 -- the name of a verdict, as in a report
 abbrev pub verdict_name : Verdict → List ℕ
@@ -56,14 +56,14 @@ unexpected_count (cause.Failed f) = before_compared f.failed
 unexpected_count _ = 0
 
 -- the words for packets that no line asks for, after their count
-abbrev pub unexpected_words : ℕ → List ℕ
-unexpected_words count = if count == 1 then codes " packet before it is" else codes " packets before it are"
+abbrev pub words_after_unexpected_count : ℕ → List ℕ
+words_after_unexpected_count count = if count == 1 then codes " packet before it is" else codes " packets before it are"
 
 -- the words for an explanation: those for its verdict, or how many packets before the awaited one no line asks for
 abbrev pub explanation_words : Explanation → List ℕ
 explanation_words e =
     let count = unexpected_count e.cause in
-    if count == 0 then verdict_words e.verdict else (decimal count ++ unexpected_words count ++ codes " asked for by no line")
+    if count == 0 then verdict_words e.verdict else (decimal count ++ words_after_unexpected_count count ++ codes " asked for by no line")
 
 -- the first line of a block: the name of a script, a line of it, a verdict, and words
 abbrev pub heading : List ℕ → ℕ → List ℕ → List ℕ → List ℕ

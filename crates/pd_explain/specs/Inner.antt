@@ -1,53 +1,44 @@
 -- Definitions that contracts of private functions cite and no public one does.
-use Rattle.std.specs.Prelude.{◌≡◌, ◌==◌, ◌≤◌, ℕ, List, [], ◌∷◌, ◌++◌, ◌+◌, ◌-◌, codes, drop, flat_map, map, take, replicate, length, min, slice_get, nat_le, Bool, Option, Some, None, option_map, if◌then◌else◌}
+use Rattle.std.specs.Prelude.{◌≡◌, ◌==◌, ℕ, List, [], ◌∷◌, ◌++◌, ◌+◌, ◌-◌, codes, drop, flat_map, map, length, Option, Some, None, if◌then◌else◌}
+use Rattle.std.specs.Borrow.{Bor}
 use Rattle.std.specs.Fmt.{decimal}
-use Rattle.pd_settings.specs.declared.settings.Settings.{Settings}
-use Rattle.pd_print.specs.Packets.{arrow}
-use Rattle.pd_print.specs.declared.packet_texts.Direction.TheVariants.{Outbound}
-use Rattle.pd_print.specs.declared.parts.PacketParts.{PacketParts}
-use Rattle.pd_explain.specs.AlignedPackets.{pad_part_before_rest}
 use Rattle.pd_print.specs.Numbers.{fixed_seconds_text}
 use Rattle.pd_explain.specs.BlockLines.{AreIndented, AreShown, ReportsTexts, origin_text}
 use Rattle.pd_explain.specs.declared.render.facts.Fact.{Fact}
 use Rattle.pd_explain.specs.declared.render.facts.FactValue.{FactValue}
 use Rattle.pd_explain.specs.declared.render.facts.FactValue.TheVariants.{Octets, Packet, Words, Moment, Number, Nothing}
-use Rattle.pd_script.specs.declared.timing.Time.{Time}
-use Rattle.pd_script.specs.declared.parsed.Parsed.{Parsed}
 use Rattle.pd_script.specs.declared.script_events.Event.{Event}
 use Rattle.pd_host.specs.declared.connection.loss_evidence.LossEvidence.{LossEvidence}
 use Rattle.pd_host.specs.declared.connection.loss_evidence.SackEvidence.{SackEvidence}
-use Rattle.pd_host.specs.InputLaws.{PutsOutAfter, CallsPutOutAfter, AdvancesPutOutAfter}
-use Rattle.pd_run.specs.Laws.{IsUnderway, unmatched, PassedPacketsAreTaken}
-use Rattle.pd_run.specs.Step.{RunStateView, tolerance_of}
-use Rattle.pd_run.specs.StopPoints.{stop_from, stop_in}
-use Rattle.pd_run.specs.Times.{time_range_of}
+use Rattle.pd_run.specs.Laws.{unmatched}
+use Rattle.pd_run.specs.Step.{RunStateView}
+use Rattle.pd_run.specs.declared.stepper.StepEnd.{StepEnd}
+use Rattle.pd_run.specs.declared.stepper.StepEnd.TheVariants.{Go, Stop}
 use Rattle.pd_seg.specs.declared.segments.Sent.{Sent}
-use Rattle.pd_run.specs.declared.stop_point.StopPoint.{StopPoint}
-use Rattle.pd_run.specs.declared.stop_reason.StopReason.{StopReason}
-use Rattle.pd_run.specs.declared.stop_reason.StopReason.TheVariants as stop_reason
-use Rattle.pd_explain.specs.Origins.{stages, taken_by, after_timer, after_input, listed_packets, IsSentBy}
-use Rattle.pd_explain.specs.Failures.{sender_at}
-use Rattle.pd_explain.specs.declared.causes.failure.ExpectedTime.{ExpectedTime}
-use Rattle.pd_explain.specs.declared.origins.Origin.{Origin}
-use Rattle.pd_explain.specs.declared.origins.Origin.TheVariants as origin
-use Rattle.pd_explain.specs.declared.origins.Trigger.{Trigger}
-use Rattle.pd_explain.specs.declared.origins.Trigger.TheVariants.{Timer, Line}
+use Rattle.pd_seg.specs.declared.send_rule.SendRule.{SendRule}
+use Rattle.pd_cause.specs.Dropped.{deciding_check}
+use Rattle.pd_explain.specs.RuleTrace.{each_once, phases, rule_line, rule_of_oldest_or_next, rules_of_event}
+use Rattle.pd_explain.specs.declared.rule_trace.BeforeEvent.{BeforeEvent}
 
--- the event of a packet that leaves, by its parts, each as wide as that of another one
-abbrev pub align_parts_to_other : List ℕ → PacketParts → List ℕ → PacketParts → List ℕ
-align_parts_to_other time p other q =
-    pad_part_before_rest time other (arrow Outbound
-    ++ pad_part_before_rest p.flags.items q.flags.items
-    (pad_part_before_rest p.octets.items q.octets.items
-    (pad_part_before_rest p.ack.items q.ack.items
-    (pad_part_before_rest p.win.items q.win.items p.options.items))))
+-- the names behind references
+abbrev pub names_of : List (Bor (List ℕ)) → List (List ℕ)
+names_of = map (λ name. name.now)
 
--- when a packet with a time is awaited
-abbrev pub expected_time_of : Time → RunStateView → Option ExpectedTime
-expected_time_of time r = option_map expected_time (time_range_of r.base time)
-  where
-    expected_time : ℕ × ℕ → ExpectedTime
-    expected_time time_range = record { first = time_range.0; last = time_range.1; tolerance = tolerance_of r }
+-- the rules of the packets from a place on
+abbrev pub unmatched_rules_from : ℕ → List Sent → List SendRule
+unmatched_rules_from from packets = map (λ (sent : Sent). sent.rule) (drop from packets)
+
+-- this is how a sender stands before an event
+pub record IsBefore (r : RunStateView) (e : Event) (before : BeforeEvent) : Type 0 where
+  pub awaited : before.awaited ≡ rule_of_oldest_or_next r
+  pub unmatched_is : before.unmatched ≡ length (unmatched r)
+  pub check : before.check ≡ deciding_check r e
+  pub phases_are : names_of before.phases.items ≡ phases r.host.state
+
+-- an event that passes gets its line, another one none
+abbrev pub NotesRules : List ℕ → RunStateView → Event → RunStateView → StepEnd → List ℕ → List ℕ → Type 0
+NotesRules of r e s Go old new = new ≡ old ++ rule_line of e.line (each_once (rules_of_event r e s))
+NotesRules of r e s (Stop v) old new = new ≡ old
 
 -- octets get further lines, indented ones
 pub record AddsLines (old : List ℕ) (new : List ℕ) : Type 0 where
@@ -122,71 +113,3 @@ sack_evidence_numbers (Some above) =
 abbrev pub loss_evidence_numbers : LossEvidence → List (List ℕ × Option ℕ)
 loss_evidence_numbers evidence =
     (codes "duplicates", Some evidence.dup_acks) ∷ (codes "duplicates_needed", Some evidence.needed) ∷ sack_evidence_numbers evidence.sacked
-
--- a run that was taken up after so many events of a script stops where the whole run does
-pub record IsResumed (settings : Settings) (parsed : Parsed) (passed : ℕ) (run : RunStateView) : Type 0 where
-  pub underway : IsUnderway passed run
-  pub stage : slice_get (stages settings parsed) passed ≡ Some run
-  pub stops : (line : ℕ) → stop_in line settings parsed ≡ stop_from line passed (drop passed parsed.events) run
-
--- a script's run gets as far as an event after so many others, or to its end
-pub record Reaches (settings : Settings) (parsed : Parsed) (passed : ℕ) : Type 0 where
-  pub run : RunStateView
-  pub stage : slice_get (stages settings parsed) passed ≡ Some run
-  pub within : passed ≤ length parsed.events
-
--- the origin of a packet with a moment, by its trigger
-abbrev pub origin_by : Trigger → ℕ → Origin
-origin_by Timer at = origin.Timer at
-origin_by (Line line) at = origin.Line line
-
--- the triggers of so many packets, first the timer and then the input of a line
-abbrev pub triggers_of : ℕ → ℕ → ℕ → List Trigger
-triggers_of timer input line = replicate timer Timer ++ replicate input (Line line)
-
--- the triggers of the packets that an event puts out
-abbrev pub triggers_at : RunStateView → Event → List Trigger
-triggers_at r e = triggers_of (length (after_timer r e) - length (unmatched r)) (length (after_input r e) - length (after_timer r e)) e.line
-
--- the same of an event that stopped a run: one whose packet or answer was compared
-abbrev pub triggers_by : RunStateView → Event → StopReason → List Trigger
-triggers_by r e (stop_reason.Differs kind sent q) = triggers_at r e
-triggers_by r e (stop_reason.Answered answer q) = triggers_at r e
-triggers_by r e _ = []
-
--- these let the packets go from a number on, up to so many that nobody has taken after so many events of a script
-pub record AreTriggers (settings : Settings) (parsed : Parsed) (first passed packets : ℕ) (triggers : List Trigger) : Type 0 where
-  pub counted : first + length triggers ≡ taken_by (take passed parsed.events) + packets
-  pub each :
-      (place at : ℕ) (trigger : Trigger) → slice_get triggers place ≡ Some trigger
-      → IsSentBy settings parsed (first + place) at (origin_by trigger at)
-
--- the origins of the oldest unmatched packets, by the triggers of those that were put out last
-pub record AreOriginsOf (packets : List Sent) (triggers : List Trigger) (origins : List Origin) : Type 0 where
-  pub all : length origins ≡ min listed_packets (length packets)
-  pub each :
-      (place : ℕ) (sent : Sent) (origin : Origin) → slice_get packets place ≡ Some sent → slice_get origins place ≡ Some origin
-      → (trigger : Trigger) × (slice_get triggers (length triggers - length packets + place) ≡ Some trigger) × (origin ≡ origin_by trigger sent.at)
-
--- the packets that nobody has taken where a run stops
-abbrev pub unmatched_at : StopPoint → List Sent
-unmatched_at stop = (sender_at stop.before stop.stop_reason).state.endpoint.outbox
-
--- the triggers of the packets are known where a run stops
-abbrev pub IsTraced : Settings → Parsed → StopPoint → List Trigger → Type 0
-IsTraced settings parsed stop triggers = (first : ℕ) × AreTriggers settings parsed first stop.passed (length (unmatched_at stop)) triggers
-
--- the origin of each unmatched packet is known
-abbrev pub knows_all_origins : StopPoint → List Trigger → Bool
-knows_all_origins stop triggers = nat_le (length (unmatched_at stop)) (length triggers)
-
--- the triggers of the packets that a run put out that has come to its end
-abbrev pub HasTriggersToEnd : Settings → Parsed → RunStateView → List Trigger → Type 0
-HasTriggersToEnd settings parsed run triggers = AreTriggers settings parsed 0 (length parsed.events) (length (unmatched run)) triggers
-
--- the laws on which notes of triggers rest
-pub record PacketsAppend : Type 0 where
-  pub arrivals : PutsOutAfter
-  pub calls : CallsPutOutAfter
-  pub advances : AdvancesPutOutAfter
-  pub taken : PassedPacketsAreTaken

@@ -1,25 +1,7 @@
 -- The definitions that the contracts cite.
-pub mod AlignedPackets
-pub mod SenderSnapshots
-pub mod Reasons
-pub mod Unexpected
-pub mod Outlook
-pub mod Origins
-pub mod Dropped
-pub mod Failures
-pub mod Causes
-pub mod ActualPackets
-pub mod Escape
-pub mod Windows
-pub mod Rules
-pub mod Parts
-pub mod Alternatives
-pub mod RuleViolations
-pub mod MarkedPlace
-pub mod ForeignSyntax
-pub mod Explained
-pub mod Leftovers
 pub mod Headings
+pub mod SendRules
+pub mod RuleTrace
 pub mod BlockLines
 pub mod States
 pub mod Inner

@@ -5,7 +5,7 @@ use Rattle.pd_recover.specs.declared.ack.Ack.{Ack}
 use Rattle.pd_recover.specs.declared.ack.SackNews.{SackNews}
 use Rattle.pd_recover.specs.declared.ack_action.AckAction.{AckAction}
 use Rattle.pd_recover.specs.declared.ack_action.AckAction.TheVariants.{StepC, NewSegment, Nothing}
-use Rattle.pd_recover.specs.Acks.{IsNamed, acked, renewed, acked_by, acked_with_sack, acked_without_sack, with_delivered, selective_duplicate, plain_duplicate, dup_ack_counted, grown_by, new_octets_acked, new_segment_within_rwnd, is_rfc5681_duplicate}
+use Rattle.pd_recover.specs.Acks.{IsNamed, acked, renewed, acked_by, acked_with_sack, acked_without_sack, with_delivered, selective_duplicate, plain_duplicate, dup_ack_counted, grown_by, new_octets_acked, new_segment_at_top_if_whole_in_rwnd, is_rfc5681_duplicate}
 use Rattle.pd_recover.specs.Cong.{CongView}
 use Rattle.pd_recover.specs.Prr.{uses_prr}
 use Rattle.pd_recover.proofs.Cases.{selective_cases, plain_cases}
@@ -50,7 +50,7 @@ le a b e = grind (arith, nat_tests)
 
 -- a new segment lies at top, among what is queued
 pub new_named : (ack : Ack) (smss una top end rwnd : ℕ) → top ≡ ack.top → end ≡ ack.end
-    → AllOf (λ segment. IsNamed ack (NewSegment segment)) (new_segment_within_rwnd smss una top end rwnd)
+    → AllOf (λ segment. IsNamed ack (NewSegment segment)) (new_segment_at_top_if_whole_in_rwnd smss una top end rwnd)
 new_named ack smss una top end rwnd t e =
     allowed_of (λ segment. IsNamed ack (NewSegment segment)) _ _ (λ passed.
     let some : top < top + min smss (end - top) = lt _ _ (first_of_two _ _ passed) in

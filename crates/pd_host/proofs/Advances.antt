@@ -5,7 +5,7 @@ use Rattle.std.proofs.lemmas.Bool.Decides.{nat_tests}
 use Rattle.pd_settings.specs.declared.settings.Settings.{Settings}
 use Rattle.pd_seg.specs.declared.segments.Sent.{Sent}
 use Rattle.pd_host.specs.Connection.{ConnectionView}
-use Rattle.pd_host.specs.Expiries.{deadline_of, due_by, segment_again, connection_expired, expired, advanced}
+use Rattle.pd_host.specs.Expiries.{deadline_of, due_by, segment_again, expiry_rule, connection_expired, expired, advanced}
 use Rattle.pd_host.specs.InputLaws.{AdvancesPutOutAfter, AdvancesUseNone, with_settings}
 use Rattle.pd_host.specs.Laws.{AreInOrder}
 use Rattle.pd_host.specs.Sending.{places_left}
@@ -84,7 +84,7 @@ one_run : (until at : ℕ) (s t : SenderState) (o : Option ConnectionView) → a
     → IsRun until s t → IsRun until s (expired at o t)
 one_run until at s t None le due e h = h
 one_run until at s t (Some c) le due e h =
-    let packet : Sent = record { segment = segment_again c c.established; at = at } in
+    let packet : Sent = record { segment = segment_again c c.established; at = at; rule = expiry_rule c.established } in
     let before : AllByRecursion (λ p. p.at ≤ at) h.packets = h.last at due in
     record {
       packets = h.packets ++ packet ∷ [];

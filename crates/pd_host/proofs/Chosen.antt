@@ -6,8 +6,8 @@ use Rattle.pd_board.specs.Retransmit.{run_at, most_from, next_lost, find_unsacke
 use Rattle.pd_board.specs.Loss.{is_unsacked}
 use Rattle.pd_board.specs.Octets.{contains, least_where, greatest_where}
 use Rattle.pd_board.specs.Board.{BoardView, IsBoardView}
-use Rattle.pd_recover.specs.Acks.{new_segment_within_rwnd as new_octets}
-use Rattle.pd_recover.specs.NextSeg.{segment_of, has_room_for_segment, lost_run, new_segment_on_board_within_rwnd, hole_run, rescue_run, next_send as next_seg, step_c_segment, limited_transmit_segment}
+use Rattle.pd_recover.specs.Acks.{new_segment_at_top_if_whole_in_rwnd as new_octets}
+use Rattle.pd_recover.specs.NextSeg.{segment_of, has_room_for_segment, lost_run, board_new_segment_at_top_if_whole_in_rwnd, hole_run, rescue_run, next_send as next_seg, step_c_segment, limited_transmit_segment}
 use Rattle.pd_recover.specs.Cong.{CongView}
 use Rattle.pd_recover.specs.Laws.{IsSpared, SparesSacked}
 use Rattle.pd_recover.specs.declared.next_segment.NextSegment.{NextSegment}
@@ -161,7 +161,7 @@ new_octets_flow smss una top end rwnd =
       queued_end top end smss (is_above top to (first_of_two (nat_lt top to) (nat_le to (una + rwnd)) t)),
     ))
 
-data_flow : (rwnd : ℕ) (s : BoardView) → AllOf (λ (segment : Span). (segment.start ≡ s.top) × (segment.end ≤ s.una + rwnd) × (segment.end ≤ s.end)) (new_segment_on_board_within_rwnd rwnd s)
+data_flow : (rwnd : ℕ) (s : BoardView) → AllOf (λ (segment : Span). (segment.start ≡ s.top) × (segment.end ≤ s.una + rwnd) × (segment.end ≤ s.end)) (board_new_segment_at_top_if_whole_in_rwnd rwnd s)
 data_flow rwnd s = new_octets_flow s.smss s.una s.top s.end rwnd
 
 -- where a segment stands that NextSeg gives: new octets at top, in the peer's window and queued, and others among those that
@@ -176,8 +176,8 @@ recovery_stands : (rwnd : ℕ) (s : BoardView) (w : CongView) → AllOf (Stands 
 recovery_stands rwnd s w =
     let P : NextSegment → Type 0 = Stands rwnd s in
     either_of P (lost_run s w) _ (map_of P (λ x. Lost (run_at x s)) (next_lost w.high_rxt s) (λ x e. run_end s x))
-    (either_of P (option_map (λ segment. New segment) (new_segment_on_board_within_rwnd rwnd s)) _
-    (map_of P (λ segment. New segment) (new_segment_on_board_within_rwnd rwnd s) (data_flow rwnd s))
+    (either_of P (option_map (λ segment. New segment) (board_new_segment_at_top_if_whole_in_rwnd rwnd s)) _
+    (map_of P (λ segment. New segment) (board_new_segment_at_top_if_whole_in_rwnd rwnd s) (data_flow rwnd s))
     (either_of P (hole_run s w) (rescue_run s w)
     (map_of P (λ x. Hole (run_at x s)) (find_unsacked_octet_by_nextseg_rule_3 w.high_rxt s) (λ x e. run_end s x))
     (allowed_of P _ _ (λ _. map_of P (λ segment. Rescue segment) (rescue s) (rescue_end s)))))
@@ -193,7 +193,7 @@ stands_in_window rwnd s (Rescue segment) h = sent_before s rwnd segment h
 
 limited_stands : (rwnd pipe : ℕ) (s : BoardView) (w : CongView) → AllOf (λ segment. Stands rwnd s (New segment)) (limited_transmit_segment rwnd pipe s w)
 limited_stands rwnd pipe s w =
-    allowed_of (λ segment. Stands rwnd s (New segment)) (has_room_for_segment pipe s w) (new_segment_on_board_within_rwnd rwnd s) (λ _. data_flow rwnd s)
+    allowed_of (λ segment. Stands rwnd s (New segment)) (has_room_for_segment pipe s w) (board_new_segment_at_top_if_whole_in_rwnd rwnd s) (λ _. data_flow rwnd s)
 
 -- so stands what step C and limited transmit send
 pub filling_stands : (filling : WindowFill) (pipe : ℕ) (c : ConnectionView) (e : Established) → AllOf (Stands e.rwnd c.board) (next_by filling pipe c e)
@@ -213,7 +213,7 @@ filling_room NextSeg pipe c e =
     (λ t _ _. is_within c.board.smss (e.congestion.cwnd - pipe) t)
 filling_room NewData pipe c e =
     map_of (λ _. c.board.smss ≤ e.congestion.cwnd - pipe) (λ segment. New segment) (limited_transmit_segment e.rwnd pipe c.board e.congestion)
-    (allowed_of (λ _. c.board.smss ≤ e.congestion.cwnd - pipe) (has_room_for_segment pipe c.board e.congestion) (new_segment_on_board_within_rwnd e.rwnd c.board)
+    (allowed_of (λ _. c.board.smss ≤ e.congestion.cwnd - pipe) (has_room_for_segment pipe c.board e.congestion) (board_new_segment_at_top_if_whole_in_rwnd e.rwnd c.board)
     (λ t _ _. is_within c.board.smss (e.congestion.cwnd - pipe) t))
 
 -- Octets that are SACKed
@@ -247,7 +247,7 @@ at_top start top e = omega (arith, e)
 
 limited_spared : (rwnd pipe : ℕ) (s : BoardView) (w : CongView) → IsBoardView s → AllOf (IsSpared s) (limited_transmit_segment rwnd pipe s w)
 limited_spared rwnd pipe s w known =
-    allowed_of (IsSpared s) (has_room_for_segment pipe s w) (new_segment_on_board_within_rwnd rwnd s)
+    allowed_of (IsSpared s) (has_room_for_segment pipe s w) (board_new_segment_at_top_if_whole_in_rwnd rwnd s)
     (λ _ segment e. above_spared s segment known (at_top segment.start s.top (data_flow rwnd s segment e).0))
 
 pub filling_spared : SparesSacked → (filling : WindowFill) (pipe : ℕ) (c : ConnectionView) (e : Established) → IsBoardView c.board

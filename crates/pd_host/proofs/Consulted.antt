@@ -8,10 +8,11 @@ use Rattle.pd_settings.specs.declared.keys.Key.TheVariants.{Mss, Sack, Wscale, R
 use Rattle.pd_settings.specs.declared.setting_set.SettingSet.{SettingSet}
 use Rattle.pd_seg.specs.declared.segments.Segment.{Segment}
 use Rattle.pd_seg.specs.declared.segments.Sent.{Sent}
+use Rattle.pd_seg.specs.declared.send_rule.SendRule.TheVariants.{SynAck}
 use Rattle.pd_timer.specs.Rto.{initial, started}
 use Rattle.pd_host.specs.Arrivals.{check_outcome, goes_on, finished_on, finished_by, arrived_on, failed_check_of, with_connection}
 use Rattle.pd_host.specs.Connection.{ConnectionView}
-use Rattle.pd_host.specs.Handshake.{is_supported_syn_for_listener, connection_begun, answered_syn, established_by, syn_acked, syn_octet, syn_settings, establishment_settings, offered_mss, offered_count, offers_sack, scaled_window_in}
+use Rattle.pd_host.specs.Handshake.{is_supported_syn_while_listening, connection_begun, answered_syn, established_by, syn_acked, syn_octet, syn_settings, establishment_settings, offered_mss, offered_count, offers_sack, scaled_window_in}
 use Rattle.pd_host.specs.RttSegment.{with_sample, with_handshake_timer_ended}
 use Rattle.pd_host.specs.declared.established.PeerFin.TheVariants.{Awaited}
 use Rattle.pd_host.specs.declared.descriptors.StreamState.TheVariants.{Waiting}
@@ -83,7 +84,7 @@ opening true segment now s t b h agree =
     let same : connection_begun now b segment ≡ c =
     begun_same s.settings b now segment (number_of (agree Mss (ap (λ (u : SettingSet). u.mss) consulted_settings))) (truth_of (agree Sack (ap (λ (u : SettingSet). u.sack) consulted_settings))) (number_of (agree Wscale (ap (λ (u : SettingSet). u.wscale) consulted_settings))) (number_of (agree RcvWnd (ap (λ (u : SettingSet). u.rcv_wnd) consulted_settings))) (number_of (agree MinRtoUs (ap (λ (u : SettingSet). u.min_rto_us) consulted_settings))) (number_of (agree MaxRtoUs (ap (λ (u : SettingSet). u.max_rto_us) consulted_settings))) in
     ap (λ (x : ConnectionView). answered_syn now x (with_settings b s)) same
-    ∙ beside_again b (record s { consulted_settings = syn_settings s.consulted_settings }) (put_out now (syn_ack_of c) (record s.endpoint { connection = Some c }))
+    ∙ beside_again b (record s { consulted_settings = syn_settings s.consulted_settings }) (put_out now SynAck (syn_ack_of c) (record s.endpoint { connection = Some c }))
 opening false segment now s t b h agree = refl
 
 -- the establishment depends on two settings, and on those by which congestion control begins
@@ -167,7 +168,7 @@ on_connection : (o : Option ConnectionView) (segment : Segment) (now : ℕ) (s t
     → arrived_on now segment s o ≡ Ok t
     → Agree t.consulted_settings s.settings b
     → arrived_on now segment (with_settings b s) o ≡ again b (arrived_on now segment s o)
-on_connection None segment now s t b h agree = opening (is_supported_syn_for_listener s.endpoint.listener segment) segment now s t b h agree
+on_connection None segment now s t b h agree = opening (is_supported_syn_while_listening s.endpoint.listener segment) segment now s t b h agree
 on_connection (Some c) segment now s t b h agree =
     both_again b now segment t c s (failed_check_of c segment) (check_outcome now segment c s (failed_check_of c segment)) (check_outcome now segment c (with_settings b s) (failed_check_of c segment))
     (λ u e k. by_ruling (failed_check_of c segment) segment now s u c b e k) h agree

@@ -4,7 +4,7 @@ use Rattle.std.specs.Prelude.{is_some, IfSome}
 use Rattle.pd_settings.specs.declared.settings.Settings.{Settings}
 use Rattle.pd_seg.specs.declared.segments.Segment.{Segment}
 use Rattle.pd_seg.specs.declared.segments.Sent.{Sent}
-use Rattle.pd_host.specs.Arrivals.{has_in_window_fin_out_of_order, failed_check_if_outside_receive_window, exact_or_challenged_check_if_rst, failed_check_if_ack_flag_missing, first_or_refused_ack_check_in_handshake, failed_check_if_ack_early_or_old, first_failed_check, failed_check_of, passed_on, arrived_on}
+use Rattle.pd_host.specs.Arrivals.{has_in_window_fin_out_of_order, failed_check_if_outside_receive_window, exact_or_challenged_check_if_rst, failed_check_if_ack_flag_missing, first_or_refused_ack_check_in_handshake, failed_check_if_ack_above_top_or_below_una, first_failed_check, failed_check_of, passed_on, arrived_on}
 use Rattle.pd_host.specs.Calls.{with_stream, with_fin}
 use Rattle.pd_host.specs.ConnStates.{state_after_handshake, state_of, is_closed}
 use Rattle.pd_host.specs.Connection.{ConnectionView}
@@ -63,7 +63,7 @@ reset_closes false state e = absurd cc
 reset_rules : (c : ConnectionView) (segment : Segment) → c.is_reset ≡ true → failed_check_of c segment ≡ Some NotRun
 reset_rules c segment e =
     not_run (nat_lt 0 (length_of segment)) segment.flags.syn (has_in_window_fin_out_of_order c segment) (is_closed (state_of c))
-    (failed_check_if_outside_receive_window c segment ∷ exact_or_challenged_check_if_rst c segment ∷ failed_check_if_ack_flag_missing segment ∷ first_or_refused_ack_check_in_handshake c segment ∷ failed_check_if_ack_early_or_old c segment ∷ [])
+    (failed_check_if_outside_receive_window c segment ∷ exact_or_challenged_check_if_rst c segment ∷ failed_check_if_ack_flag_missing segment ∷ first_or_refused_ack_check_in_handshake c segment ∷ failed_check_if_ack_above_top_or_below_una c segment ∷ [])
     (reset_closes c.is_reset (state_after_handshake c c.established) e)
 
 off : (x is_reset : Bool) → is_reset ≡ true → (x && not is_reset) ≡ false

@@ -1,6 +1,7 @@
 -- The properties of an arrival after the peer's FIN.
 use Rattle.std.proofs.Common.{◌≡◌, ℕ, ◌&&◌, nat_lt, length, Bool, true, false, if◌then◌else◌, [], ◌∷◌, ◌++◌, Option, None, Some, Result, Ok, Err, refl}
 use Rattle.pd_seg.specs.declared.segments.Segment.{Segment}
+use Rattle.pd_seg.specs.declared.send_rule.SendRule.TheVariants.{Ack}
 use Rattle.pd_host.specs.Arrivals.{check_outcome, goes_on, with_connection, with_peer_fin, finished_on, finished_by, passed_on}
 use Rattle.pd_host.specs.Connection.{ConnectionView}
 use Rattle.pd_host.specs.Packets.{ack_of}
@@ -15,10 +16,10 @@ use Rattle.pd_host.proofs.Outcomes.{Leaves, either, then_leaves}
 
 -- the state after the FIN: the connection has taken it, and an ACK follows the packets
 abbrev pub after_fin : ℕ → ConnectionView → SenderState → SenderState
-after_fin now c s = with_packet_sent now (ack_of (with_peer_fin c)) (with_begun_connection (with_peer_fin c) s)
+after_fin now c s = with_packet_sent now Ack (ack_of (with_peer_fin c)) (with_begun_connection (with_peer_fin c) s)
 
-one_put : (P : SenderState → Type 0) (b : Bool) (now : ℕ) (d : ConnectionView) (s : SenderState) → P (with_packet_sent now (ack_of d) (with_begun_connection d s))
-    → Leaves P (beside s (with_outbox (with_connection d s.endpoint) (if b then Ok (s.endpoint.outbox ++ record { segment = ack_of d; at = now } ∷ []) else Err Limit)))
+one_put : (P : SenderState → Type 0) (b : Bool) (now : ℕ) (d : ConnectionView) (s : SenderState) → P (with_packet_sent now Ack (ack_of d) (with_begun_connection d s))
+    → Leaves P (beside s (with_outbox (with_connection d s.endpoint) (if b then Ok (s.endpoint.outbox ++ record { segment = ack_of d; at = now; rule = Ack } ∷ []) else Err Limit)))
 one_put P true now d s h = h
 one_put P false now d s h = tt
 

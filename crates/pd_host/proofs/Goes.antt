@@ -7,11 +7,13 @@ use Rattle.pd_recover.specs.declared.ack_action.AckAction.TheVariants.{Ordinary,
 use Rattle.pd_recover.specs.declared.next_segment.NextSegment.{NextSegment}
 use Rattle.pd_recover.specs.declared.next_segment.NextSegment.TheVariants.{Lost, New, Hole, Rescue}
 use Rattle.pd_seg.specs.declared.sack_spans.Span.{Span}
-use Rattle.pd_host.specs.AckEffects.{OnTheWay, next_fill, sent_as, fill_noted_on, one_filled, pipe_of, filled, push_data_segment_to_outbox, entered_on, entry, after_ack_action}
+use Rattle.pd_seg.specs.declared.send_rule.SendRule.{SendRule}
+use Rattle.pd_seg.specs.declared.send_rule.SendRule.TheVariants.{LimitedTransmit as LimitedBy3042, FastRetransmit as FastBy5681, SackFastRetransmit}
+use Rattle.pd_host.specs.AckEffects.{OnTheWay, fill_rule, next_fill, sent_as, fill_noted_on, one_filled, pipe_of, filled, push_data_segment_to_outbox, entered_on, entry, after_ack_action}
 use Rattle.pd_host.specs.Connection.{ConnectionView}
 use Rattle.pd_host.specs.OutboxLimit.{has_place}
-use Rattle.pd_host.specs.Sending.{value_on, places_left, with_begun_connection, restarted_if_idle, with_next_past_sacked, sent_on, with_segment, found, sent_ordinarily, ready, ordinary}
-use Rattle.pd_host.specs.RttSegment.{timing_started, rtt_segment_after_sending}
+use Rattle.pd_host.specs.Sending.{value_on, places_left, with_begun_connection, restarted_if_idle, with_next_past_sacked, sent_on, with_segment, found, ordinary_rule, sent_ordinarily, ready, ordinary}
+use Rattle.pd_host.specs.RttSegment.{timing_started, rtt_segment_by_karn_after_sending}
 use Rattle.pd_host.specs.declared.established.Established.{Established}
 use Rattle.pd_host.specs.declared.connection.ack_effects.WindowFill.{WindowFill}
 use Rattle.pd_host.specs.declared.connection.ack_effects.WindowFill.TheVariants.{NextSeg, NewData}
@@ -29,7 +31,7 @@ window_end c o = value_on 0 (λ d e. d.board.una + e.rwnd) c o
 -- a segment that the windows let leave is sent from a connection, which becomes another one
 pub record IsSending (now : ℕ) (segment : Span) (c d : ConnectionView) : Type 0 where
   pub stays : still d ≡ still c
-  pub rtt_segment : d.rtt_segment ≡ rtt_segment_after_sending now segment c.board.top c.rtt_segment
+  pub rtt_segment : d.rtt_segment ≡ rtt_segment_by_karn_after_sending now segment c.board.top c.rtt_segment
   pub low : d.board.top ≤ max c.board.top segment.end
   pub high : c.board.top ≤ d.board.top
   pub within : segment.end ≤ d.board.top
@@ -48,8 +50,8 @@ pub record Goes (now : ℕ) (R : SenderState → SenderState → Type 0) : Type 
   pub more : (r s t : SenderState) → R r s → R s t → R r t
   pub moved : (c d : ConnectionView) (s : SenderState) → s.endpoint.connection ≡ Some c → IsMoved c d → R s (with_begun_connection d s)
   pub sent :
-      (segment : Span) (c d : ConnectionView) (s : SenderState) → s.endpoint.connection ≡ Some c → IsSending now segment c d
-      → R s (with_segment now segment c d s)
+      (rule : SendRule) (segment : Span) (c d : ConnectionView) (s : SenderState) → s.endpoint.connection ≡ Some c → IsSending now segment c d
+      → R s (with_segment now rule segment c d s)
 
 greater : (a b : ℕ) → (a ≤ max a b) × (b ≤ max a b)
 greater a b = (omega arith, omega arith)
@@ -68,7 +70,7 @@ none_new start end top last below above some = absurd (omega (arith, below, abov
 
 -- new octets
 new_octets : (now : ℕ) (segment : Span) (c d : ConnectionView) → still d ≡ still c
-    → d.rtt_segment ≡ rtt_segment_after_sending now segment c.board.top c.rtt_segment → d.board.top ≡ max c.board.top segment.end
+    → d.rtt_segment ≡ rtt_segment_by_karn_after_sending now segment c.board.top c.rtt_segment → d.board.top ≡ max c.board.top segment.end
     → (c.board.top < segment.end → segment.end ≤ window_end c c.established)
     → (c.board.top ≤ segment.start → segment.start < segment.end → segment.end ≤ c.board.end) → IsSending now segment c d
 new_octets now segment c d stays rtt_segment top allowed queued = record {
@@ -83,7 +85,7 @@ new_octets now segment c d stays rtt_segment top allowed queued = record {
 
 -- octets again
 old_octets : (now : ℕ) (segment : Span) (c d : ConnectionView) → still d ≡ still c
-    → d.rtt_segment ≡ rtt_segment_after_sending now segment c.board.top c.rtt_segment → d.board.top ≡ c.board.top
+    → d.rtt_segment ≡ rtt_segment_by_karn_after_sending now segment c.board.top c.rtt_segment → d.board.top ≡ c.board.top
     → segment.end ≤ c.board.top → IsSending now segment c d
 old_octets now segment c d stays rtt_segment top below = record {
   stays = stays;
@@ -193,7 +195,7 @@ module _ (now : ℕ) (R : SenderState → SenderState → Type 0) (rules : Goes 
   once : (segment : Span) (s : SenderState) (o : Option ConnectionView) → s.endpoint.connection ≡ o → found o ≡ Some segment
       → R s (sent_ordinarily now segment o s)
   once segment s None e h = rules.none s
-  once segment s (Some c) e h = rules.sent segment c (with_next_past_sacked (sent_on now segment c)) s e (ordinary_sending now segment c h)
+  once segment s (Some c) e h = rules.sent (ordinary_rule c) segment c (with_next_past_sacked (sent_on now segment c)) s e (ordinary_sending now segment c h)
 
   made_ready : (s : SenderState) (o : Option ConnectionView) → s.endpoint.connection ≡ o → R s (ready now o s)
   made_ready s None e = rules.none s
@@ -210,7 +212,7 @@ module _ (now : ℕ) (R : SenderState → SenderState → Type 0) (rules : Goes 
       → next_fill filling t.1 o ≡ Some sent → R t.0 (one_filled now filling sent o t).0
   fill_once filling sent t None e h = rules.none t.0
   fill_once filling sent t (Some c) e h =
-      rules.sent (segment_of sent) c (fill_left now filling sent c) t.0 e
+      rules.sent (fill_rule filling sent) (segment_of sent) c (fill_left now filling sent c) t.0 e
       (fill_sending now filling sent c (fill_stands filling t.1 c c.established sent h))
 
   pub filled_goes : (filling : WindowFill) (r s : SenderState) → R r s → Leaves (R r) (filled now filling s)
@@ -220,18 +222,18 @@ module _ (now : ℕ) (R : SenderState → SenderState → Type 0) (rules : Goes 
       (λ sent t e so_far. rules.more r t.0 (fill_sends now filling sent t).0 so_far (fill_once filling sent t t.0.endpoint.connection refl e))
       (places_left s) (s, pipe_of s.endpoint.connection) h)
 
-  put_goes : (segment : Span) (c d : ConnectionView) (s : SenderState) → s.endpoint.connection ≡ Some c → IsSending now segment c d
-      → Leaves (R s) (push_data_segment_to_outbox now segment c d s)
-  put_goes segment c d s e h =
-      either (R s) (has_place s.endpoint.outbox) (Ok (with_segment now segment c d s)) (Err Limit) (rules.sent segment c d s e h) tt
+  put_goes : (rule : SendRule) (segment : Span) (c d : ConnectionView) (s : SenderState) → s.endpoint.connection ≡ Some c → IsSending now segment c d
+      → Leaves (R s) (push_data_segment_to_outbox now rule segment c d s)
+  put_goes rule segment c d s e h =
+      either (R s) (has_place s.endpoint.outbox) (Ok (with_segment now rule segment c d s)) (Err Limit) (rules.sent rule segment c d s e h) tt
 
   entry_goes : (c : ConnectionView) (s : SenderState) → s.endpoint.connection ≡ Some c → Leaves (R s) (entry now c s)
   entry_goes c s e =
       let segment : Span = run_at c.board.una c.board in
       let sent : ConnectionView = entered_on segment (timing_started now segment c) c.established in
       let moved : ConnectionView = entered_on segment c c.established in
-      either (R s) (nat_lt segment.start segment.end) (push_data_segment_to_outbox now segment c sent s) (Ok (with_begun_connection moved s))
-      (put_goes segment c sent s e (entry_sending now segment c (run_end c.board c.board.una)))
+      either (R s) (nat_lt segment.start segment.end) (push_data_segment_to_outbox now SackFastRetransmit segment c sent s) (Ok (with_begun_connection moved s))
+      (put_goes SackFastRetransmit segment c sent s e (entry_sending now segment c (run_end c.board c.board.una)))
       (rules.moved c moved s e (entry_moved segment c))
 
   pub led_to_goes : (c : ConnectionView) (s : SenderState) (next : AckAction) → s.endpoint.connection ≡ Some c → IsNamed c next → Leaves (R s) (after_ack_action now c s next)
@@ -241,9 +243,9 @@ module _ (now : ℕ) (R : SenderState → SenderState → Type 0) (rules : Goes 
       then_leaves (R s) (R s) (filled now NextSeg) (entry now c s) (entry_goes c s e) (λ t so_far. filled_goes NextSeg s t so_far)
   led_to_goes c s LimitedTransmit e h = filled_goes NewData s s (rules.none s)
   led_to_goes c s (NewSegment segment) e h =
-      put_goes segment c (sent_on now segment c) s e (new_octets now segment c (sent_on now segment c) refl refl refl (λ _. h.0) (λ _ _. h.1))
+      put_goes LimitedBy3042 segment c (sent_on now segment c) s e (new_octets now segment c (sent_on now segment c) refl refl refl (λ _. h.0) (λ _ _. h.1))
   led_to_goes c s (FastRetransmit segment) e h =
-      then_leaves (R s) (R s) (ordinary now) (push_data_segment_to_outbox now segment c (timing_started now segment c) s)
-      (put_goes segment c (timing_started now segment c) s e (old_octets now segment c (timing_started now segment c) refl refl refl h))
+      then_leaves (R s) (R s) (ordinary now) (push_data_segment_to_outbox now FastBy5681 segment c (timing_started now segment c) s)
+      (put_goes FastBy5681 segment c (timing_started now segment c) s e (old_octets now segment c (timing_started now segment c) refl refl refl h))
       (λ t so_far. ordinary_goes s t so_far)
   led_to_goes c s Nothing e h = rules.none s

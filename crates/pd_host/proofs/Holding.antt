@@ -4,8 +4,8 @@ use Rattle.std.proofs.lemmas.Bool.Decides.{nat_tests}
 use Rattle.pd_seg.specs.declared.sack_spans.Span.{Span}
 use Rattle.pd_board.specs.Retransmit.{run_at}
 use Rattle.pd_host.specs.Connection.{ConnectionView}
-use Rattle.pd_host.specs.SendBlockers.{is_worth_sending, new_segment_send_blocker, is_open, SendsWhereNothingBlocks}
-use Rattle.pd_host.specs.Sending.{una_plus_smaller_window, unsent_octets_in_usable_window, unsent_segment, can_send_full_segment, is_unsent_within_usable_window, can_send_half_max_window, is_nagle_delayed, may_leave_by_sws_and_nagle, next_new_segment, retransmit_segment_at_next_if_in_windows}
+use Rattle.pd_host.specs.SendBlockers.{may_leave_by_sws_ignoring_nagle, new_segment_send_blocker, is_open, SendsWhereNothingBlocks}
+use Rattle.pd_host.specs.Sending.{una_plus_smaller_window, unsent_octets_in_usable_window, unsent_segment, can_send_full_segment, is_unsent_within_usable_window, can_send_half_max_window, is_partial_held_by_nagle_unless_fin, may_leave_by_sws_and_nagle, next_new_segment, retransmit_segment_at_next_if_in_windows}
 use Rattle.pd_host.specs.declared.established.Established.{Established}
 use Rattle.pd_host.specs.declared.connection.introspection.SendBlocker.TheVariants.{AllSent, PeerWindow, CongestionWindow, PartOfSegment, Nagle, Open}
 use Rattle.pd_host.proofs.Runs.{run_within}
@@ -59,12 +59,12 @@ by : (c : ConnectionView) (e : Established) → 1 ≤ c.board.next → c.board.n
 by c e some sent queued true before =
     let segment : Span = run_at c.board.next c.board in
     let within = run_within c.board.next c.board sent in
-    opens (nat_le c.board.end c.board.next) (nat_le (c.board.una + e.rwnd) (segment.end - 1)) (nat_le (c.board.una + e.congestion.cwnd) (segment.end - 1)) true (is_worth_sending c e) (may_leave_by_sws_and_nagle c e)
-    ∙ (all_within c.board.una e.rwnd e.congestion.cwnd c.board.next c.board.top c.board.end segment.end (is_worth_sending c e && may_leave_by_sws_and_nagle c e) before queued (omega (arith, some, within.0))
+    opens (nat_le c.board.end c.board.next) (nat_le (c.board.una + e.rwnd) (segment.end - 1)) (nat_le (c.board.una + e.congestion.cwnd) (segment.end - 1)) true (may_leave_by_sws_ignoring_nagle c e) (may_leave_by_sws_and_nagle c e)
+    ∙ (all_within c.board.una e.rwnd e.congestion.cwnd c.board.next c.board.top c.board.end segment.end (may_leave_by_sws_ignoring_nagle c e && may_leave_by_sws_and_nagle c e) before queued (omega (arith, some, within.0))
     ∙ sym (found_where (nat_le segment.end (una_plus_smaller_window c e)) segment))
 by c e some sent queued false before =
-    opens (nat_le c.board.end c.board.next) (nat_le (c.board.una + e.rwnd) c.board.next) (nat_le (c.board.una + e.congestion.cwnd) c.board.next) false (is_worth_sending c e) (may_leave_by_sws_and_nagle c e)
-    ∙ (joined (not (nat_le c.board.end c.board.next)) (not (nat_le (c.board.una + e.rwnd) c.board.next)) (not (nat_le (c.board.una + e.congestion.cwnd) c.board.next)) (can_send_full_segment c e) (is_unsent_within_usable_window c e || can_send_half_max_window c e) (is_nagle_delayed c e)
+    opens (nat_le c.board.end c.board.next) (nat_le (c.board.una + e.rwnd) c.board.next) (nat_le (c.board.una + e.congestion.cwnd) c.board.next) false (may_leave_by_sws_ignoring_nagle c e) (may_leave_by_sws_and_nagle c e)
+    ∙ (joined (not (nat_le c.board.end c.board.next)) (not (nat_le (c.board.una + e.rwnd) c.board.next)) (not (nat_le (c.board.una + e.congestion.cwnd) c.board.next)) (can_send_full_segment c e) (is_unsent_within_usable_window c e || can_send_half_max_window c e) (is_partial_held_by_nagle_unless_fin c e)
     ∙ (ap (λ b. b && may_leave_by_sws_and_nagle c e) (some_within c.board.una e.rwnd e.congestion.cwnd c.board.next c.board.end)
     ∙ sym (found_where (nat_lt 0 (unsent_octets_in_usable_window c e) && may_leave_by_sws_and_nagle c e) (unsent_segment c e))))
 

@@ -9,6 +9,8 @@ use Rattle.pd_seg.specs.declared.call_results.Answer.{Answer}
 use Rattle.pd_seg.specs.declared.sack_spans.Span.{Span}
 use Rattle.pd_seg.specs.declared.segments.Segment.{Segment}
 use Rattle.pd_seg.specs.declared.segments.Sent.{Sent}
+use Rattle.pd_seg.specs.declared.send_rule.SendRule.{SendRule}
+use Rattle.pd_seg.specs.declared.send_rule.SendRule.TheVariants.{SynAck, Ack as AckRule, Rst}
 use Rattle.pd_host.specs.AckEffects.{newly_acked, ack_of_segment, with_ack, taking, ack_taken, delivery, congestion_updated}
 use Rattle.std.specs.Prelude.{option_map}
 use Rattle.pd_board.specs.Board.{with_none_sacked}
@@ -16,8 +18,8 @@ use Rattle.pd_script.specs.declared.calls.Call.{Call}
 use Rattle.pd_host.specs.Calls.{called}
 use Rattle.pd_host.specs.Arrivals.{check_outcome, arrived_on, arrived, failed_check_of, reset_of, with_peer_fin}
 use Rattle.pd_host.specs.Connection.{ConnectionView, data_end}
-use Rattle.pd_host.specs.Expiries.{first_again, segment_again, connection_expired, expired, advanced}
-use Rattle.pd_host.specs.Handshake.{is_supported_syn_for_listener, connection_begun, answered_syn, syn_settings, established_by, establishment_settings}
+use Rattle.pd_host.specs.Expiries.{first_again, segment_again, expiry_rule, connection_expired, expired, advanced}
+use Rattle.pd_host.specs.Handshake.{is_supported_syn_while_listening, connection_begun, answered_syn, syn_settings, established_by, establishment_settings}
 use Rattle.pd_host.specs.Packets.{data_of, covers_fin, ack_of, refusal_of, syn_ack_of}
 use Rattle.pd_host.specs.Host.{beside, with_outbox}
 use Rattle.pd_host.specs.Sending.{places_left, with_begun_connection, with_segment}
@@ -178,10 +180,10 @@ moved c d s e h =
       window = same_window c d h.stays ∙ sym (ap peer_window_edge e);
     }
 
-sent : (now : ℕ) (segment : Span) (c d : ConnectionView) (s : SenderState) → s.endpoint.connection ≡ Some c → IsSending now segment c d
-    → IsIn s (with_segment now segment c d s)
-sent now segment c d s e h =
-    let packet : Sent = record { segment = data_of c segment; at = now } in
+sent : (now : ℕ) (rule : SendRule) (segment : Span) (c d : ConnectionView) (s : SenderState) → s.endpoint.connection ≡ Some c → IsSending now segment c d
+    → IsIn s (with_segment now rule segment c d s)
+sent now rule segment c d s e h =
+    let packet : Sent = record { segment = data_of c segment; at = now; rule = rule } in
     let m : ℕ = edge (Some c) in
     let here : m ≡ edge s.endpoint.connection = sym (ap edge e) in
     let ends : segment.end ≤ m = either_bound (nat_lt c.board.top segment.end) c.board.top segment.end (window_end c c.established) refl h.allowed in
@@ -220,17 +222,17 @@ nothing_out : (s t : SenderState) → t.endpoint.outbox ≡ s.endpoint.outbox �
 nothing_out s t same = ([], tt, sym (append-nil t.endpoint.outbox) ∙ ap (λ (l : List Sent). l ++ []) same)
 
 -- a packet without octets
-one_out : (b : Bool) (now : ℕ) (segment : Segment) (u s : SenderState) (e : Endpoint) → e.outbox ≡ s.endpoint.outbox
+one_out : (b : Bool) (now : ℕ) (rule : SendRule) (segment : Segment) (u s : SenderState) (e : Endpoint) → e.outbox ≡ s.endpoint.outbox
     → (segment.start < end_with_fin segment → ⊥)
-    → Leaves (PutsOutInWindow s) (beside u (with_outbox e (if b then Ok (e.outbox ++ record { segment = segment; at = now } ∷ []) else Err Limit)))
-one_out true now segment u s e same empty =
-    let packet : Sent = record { segment = segment; at = now } in
+    → Leaves (PutsOutInWindow s) (beside u (with_outbox e (if b then Ok (e.outbox ++ record { segment = segment; at = now; rule = rule } ∷ []) else Err Limit)))
+one_out true now rule segment u s e same empty =
+    let packet : Sent = record { segment = segment; at = now; rule = rule } in
     (packet ∷ [], (λ lt. absurd (empty lt), tt), ap (λ (l : List Sent). l ++ packet ∷ []) same)
-one_out false now segment u s e same empty = tt
+one_out false now rule segment u s e same empty = tt
 
-answered_out : (now : ℕ) (segment : Segment) (s : SenderState) → (segment.start < end_with_fin segment → ⊥)
-    → Leaves (PutsOutInWindow s) (beside s (with_outbox s.endpoint (if nat_lt (length s.endpoint.outbox) 1024 then Ok (s.endpoint.outbox ++ record { segment = segment; at = now } ∷ []) else Err Limit)))
-answered_out now segment s empty = one_out (nat_lt (length s.endpoint.outbox) 1024) now segment s s s.endpoint refl empty
+answered_out : (now : ℕ) (rule : SendRule) (segment : Segment) (s : SenderState) → (segment.start < end_with_fin segment → ⊥)
+    → Leaves (PutsOutInWindow s) (beside s (with_outbox s.endpoint (if nat_lt (length s.endpoint.outbox) 1024 then Ok (s.endpoint.outbox ++ record { segment = segment; at = now; rule = rule } ∷ []) else Err Limit)))
+answered_out now rule segment s empty = one_out (nat_lt (length s.endpoint.outbox) 1024) now rule segment s s s.endpoint refl empty
 
 -- what an ACK names stands where the connection that it left says
 
@@ -276,15 +278,15 @@ by_ruling : (r : Option SegmentCheck) (segment : Segment) (now : ℕ) (s : Sende
     → Leaves (PutsOutInWindow s) (check_outcome now segment c s r)
 by_ruling (Some NotRun) segment now s c e = tt
 by_ruling (Some StrayRst) segment now s c e = nothing_out s s refl
-by_ruling (Some OutsideWindow) segment now s c e = answered_out now (ack_of c) s (below_self c.board.top)
+by_ruling (Some OutsideWindow) segment now s c e = answered_out now AckRule (ack_of c) s (below_self c.board.top)
 by_ruling (Some ExactRst) segment now s c e = nothing_out s (with_begun_connection (reset_of c) s) refl
-by_ruling (Some ChallengedRst) segment now s c e = answered_out now (ack_of c) s (below_self c.board.top)
+by_ruling (Some ChallengedRst) segment now s c e = answered_out now AckRule (ack_of c) s (below_self c.board.top)
 by_ruling (Some WithoutAck) segment now s c e = nothing_out s s refl
 by_ruling (Some FirstAck) segment now s c e =
     let left : SenderState = with_begun_connection (established_by now s.settings segment c) s in
     nothing_out s (record left { consulted_settings = establishment_settings s.consulted_settings }) refl
-by_ruling (Some RefusedAck) segment now s c e = answered_out now (refusal_of segment.ack) s (below_self segment.ack)
-by_ruling (Some EarlyAck) segment now s c e = answered_out now (ack_of c) s (below_self c.board.top)
+by_ruling (Some RefusedAck) segment now s c e = answered_out now Rst (refusal_of segment.ack) s (below_self segment.ack)
+by_ruling (Some EarlyAck) segment now s c e = answered_out now AckRule (ack_of c) s (below_self c.board.top)
 by_ruling (Some OldAck) segment now s c e = nothing_out s s refl
 by_ruling None segment now s c e = taken_in_window now segment c s c.established e
 
@@ -292,7 +294,7 @@ by_ruling None segment now s c e = taken_in_window now segment c s c.established
 fin_in_window : (now : ℕ) (s u : SenderState) (c : ConnectionView) → u.endpoint.connection ≡ Some c → PutsOutInWindow s u
     → PutsOutInWindow s (after_fin now c u)
 fin_in_window now s u c e h =
-    let packet : Sent = record { segment = ack_of (with_peer_fin c); at = now } in
+    let packet : Sent = record { segment = ack_of (with_peer_fin c); at = now; rule = AckRule } in
     let n : ℕ = max (top_in s.endpoint.connection) (peer_window_edge (Some (with_peer_fin c))) in
     let same : max (top_in s.endpoint.connection) (peer_window_edge u.endpoint.connection) ≡ n =
     ap (λ (x : ℕ). max (top_in s.endpoint.connection) x) (ap peer_window_edge e ∙ sym (fin_window c c.established)) in (
@@ -310,8 +312,8 @@ on_connection : (o : Option ConnectionView) (segment : Segment) (now : ℕ) (s :
     → Leaves (PutsOutInWindow s) (arrived_on now segment s o)
 on_connection None segment now s e =
     let c : ConnectionView = connection_begun now s.settings segment in
-    either (PutsOutInWindow s) (is_supported_syn_for_listener s.endpoint.listener segment) (answered_syn now c s) (Err Unsupported)
-    (one_out (nat_lt (length s.endpoint.outbox) 1024) now (syn_ack_of c) (record s { consulted_settings = syn_settings s.consulted_settings }) s
+    either (PutsOutInWindow s) (is_supported_syn_while_listening s.endpoint.listener segment) (answered_syn now c s) (Err Unsupported)
+    (one_out (nat_lt (length s.endpoint.outbox) 1024) now SynAck (syn_ack_of c) (record s { consulted_settings = syn_settings s.consulted_settings }) s
     (record s.endpoint { connection = Some c }) refl (below_self 0)) tt
 on_connection (Some c) segment now s e =
     passed_leaves (PutsOutInWindow s) now segment c s (failed_check_of c segment) (λ u d is k. fin_in_window now s u d is k)
@@ -336,7 +338,7 @@ expired_top at c (Some e) = highest c.board.top (first_again c).end (again_end c
     again_end : (d : ConnectionView) → (first_again d).end ≤ d.board.top
     again_end d = run_end (with_none_sacked d.board) d.board.una
 
-expired_below : (at : ℕ) (c : ConnectionView) (o : Option Established) → LiesBelow c.board.top (record { segment = segment_again c o; at = at })
+expired_below : (at : ℕ) (c : ConnectionView) (o : Option Established) → LiesBelow c.board.top (record { segment = segment_again c o; at = at; rule = expiry_rule o })
 expired_below at c None = λ lt. absurd (below_self 0 lt)
 expired_below at c (Some e) =
     λ lt. lower (end_with_fin (data_of c (first_again c))) (first_again c).end c.board.top (packet_ends c (first_again c)) (run_end (with_none_sacked c.board) c.board.una)
@@ -344,7 +346,7 @@ expired_below at c (Some e) =
 one_again : (at : ℕ) (s t : SenderState) (o : Option ConnectionView) → t.endpoint.connection ≡ o → IsAgain s t → IsAgain s (expired at o t)
 one_again at s t None e h = h
 one_again at s t (Some c) e h =
-    let packet : Sent = record { segment = segment_again c c.established; at = at } in
+    let packet : Sent = record { segment = segment_again c c.established; at = at; rule = expiry_rule c.established } in
     let top : c.board.top ≡ top_in s.endpoint.connection = sym (ap top_in e) ∙ h.top in
     record {
       packets = h.packets ++ packet ∷ [];

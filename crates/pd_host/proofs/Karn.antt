@@ -5,7 +5,7 @@ use Rattle.pd_seg.specs.declared.sack_spans.Span.{Span}
 use Rattle.pd_host.specs.Connection.{ConnectionView}
 use Rattle.pd_host.specs.Expiries.{connection_expired}
 use Rattle.pd_host.specs.SendingLaws.{TimesOnce}
-use Rattle.pd_host.specs.RttSegment.{rtt_segment_after_sending}
+use Rattle.pd_host.specs.RttSegment.{rtt_segment_by_karn_after_sending}
 use Rattle.pd_host.specs.declared.established.Established.{Established}
 use Rattle.pd_host.specs.declared.connection.rtt_segment.RttSegment.{RttSegment}
 
@@ -31,9 +31,9 @@ expiry at c (Some e) = refl
 
 pub times_once : TimesOnce
 times_once = record {
-  given_up = λ now segment c t has over. ap (rtt_segment_after_sending now segment c.board.top) has ∙ ap (left t) over;
-  kept = λ now segment c t has over. ap (rtt_segment_after_sending now segment c.board.top) has ∙ ap (left t) over;
+  given_up = λ now segment c t has over. ap (rtt_segment_by_karn_after_sending now segment c.board.top) has ∙ ap (left t) over;
+  kept = λ now segment c t has over. ap (rtt_segment_by_karn_after_sending now segment c.board.top) has ∙ ap (left t) over;
   begun = λ now segment c t none h.
-      new_so (nat_le c.board.top segment.start) now segment c.board.top t refl (sym (ap (rtt_segment_after_sending now segment c.board.top) none) ∙ h);
+      new_so (nat_le c.board.top segment.start) now segment c.board.top t refl (sym (ap (rtt_segment_by_karn_after_sending now segment c.board.top) none) ∙ h);
   expiry = λ at c. expiry at c c.established;
 }

@@ -4,7 +4,7 @@ use Rattle.std.specs.Prelude.{nat_eq}
 use Rattle.std.proofs.lemmas.Bool.Decides.{nat_tests}
 use Rattle.pd_board.specs.Loss.{dup_thresh}
 use Rattle.pd_recover.proofs.Cases.{either}
-use Rattle.pd_recover.specs.Acks.{acked, renewed, acked_by, acked_with_sack, acked_without_sack, selective_duplicate, plain_duplicate, limited_transmit, sent_limited, new_segment_within_rwnd, dup_ack_counted, grown_by, entered, is_rfc5681_duplicate}
+use Rattle.pd_recover.specs.Acks.{acked, renewed, acked_by, acked_with_sack, acked_without_sack, selective_duplicate, plain_duplicate, limited_transmit, sent_limited, new_segment_at_top_if_whole_in_rwnd, dup_ack_counted, grown_by, entered, is_rfc5681_duplicate}
 use Rattle.pd_recover.specs.Cong.{CongView, grown}
 use Rattle.pd_recover.specs.declared.ack.Ack.{Ack}
 use Rattle.pd_recover.specs.declared.ack.SackNews.{SackNews}
@@ -77,7 +77,7 @@ module _ (ack : Ack) (w : CongView) where
   limited_by true (Some segment) v = either (λ (step : CongView × AckAction). goes_on step ≡ v.recovering) _ _ _ refl refl
 
   limited_keeps : (v : CongView) → goes_on (limited_transmit ack v) ≡ v.recovering
-  limited_keeps v = limited_by v.limited_transmit (new_segment_within_rwnd ack.smss ack.una ack.top ack.end ack.rwnd) v
+  limited_keeps v = limited_by v.limited_transmit (new_segment_at_top_if_whole_in_rwnd ack.smss ack.una ack.top ack.end ack.rwnd) v
 
   plain_by : (few same : Bool) (x y z : CongView × AckAction) → goes_on x ≡ false → goes_on y ≡ true → (few ≡ false → same ≡ true)
       → goes_on (if few then x else (if same then y else z)) ≡ not few

@@ -12,7 +12,7 @@ use Rattle.pd_host.specs.Arrivals.{check_outcome, arrived_on, arrived, failed_ch
 use Rattle.pd_host.specs.Calls.{Descriptor, Listening, Connected, Reply, answered, with_listener, with_stored, socket_reply, bind_reply, listen_reply, accept_reply, handed_out, no_delay_reply, free_of, with_queued, write_settings, queued, written_on, write_reply, closed_stream, closed_on, close_reply, operated, on_open, open_descriptor, reply_to, requested, called, has_begun_unaccepted_connection, is_unaccepted, stream_of, with_stream, with_nagle}
 use Rattle.pd_host.specs.Connection.{ConnectionView}
 use Rattle.pd_host.specs.Expiries.{expired, advanced}
-use Rattle.pd_host.specs.Handshake.{is_supported_syn_for_listener, connection_begun, answered_syn, syn_settings, establishment_settings}
+use Rattle.pd_host.specs.Handshake.{is_supported_syn_while_listening, connection_begun, answered_syn, syn_settings, establishment_settings}
 use Rattle.pd_host.specs.InputLaws.{Notes, ArrivalsNote, CallsNote, AdvancesNote}
 use Rattle.pd_host.specs.Syscalls.{syscall_of}
 use Rattle.pd_host.specs.Host.{beside}
@@ -100,7 +100,7 @@ opening now c s =
 
 on_connection : (o : Option ConnectionView) (segment : Segment) (now : ℕ) (s : SenderState) → Leaves (Notes s) (arrived_on now segment s o)
 on_connection None segment now s =
-    either (Notes s) (is_supported_syn_for_listener s.endpoint.listener segment) (answered_syn now (connection_begun now s.settings segment) s) (Err Unsupported)
+    either (Notes s) (is_supported_syn_while_listening s.endpoint.listener segment) (answered_syn now (connection_begun now s.settings segment) s) (Err Unsupported)
     (opening now (connection_begun now s.settings segment) s) tt
 on_connection (Some c) segment now s =
     passed_leaves (Notes s) now segment c s (failed_check_of c segment) (λ u d e k. record { settings = k.settings; consulted_settings = k.consulted_settings })

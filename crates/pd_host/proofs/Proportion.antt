@@ -3,6 +3,7 @@ use Rattle.std.proofs.Common.{◌≡◌, ◌⊎◌, inl, inr, ℕ, ◌+◌, ◌-
 use Rattle.pd_seg.specs.declared.sack_spans.Span.{Span}
 use Rattle.pd_seg.specs.declared.segments.Segment.{Segment}
 use Rattle.pd_seg.specs.declared.segments.Sent.{Sent}
+use Rattle.pd_seg.specs.declared.send_rule.SendRule.TheVariants.{SackFastRetransmit}
 use Rattle.pd_board.specs.Board.{BoardView}
 use Rattle.pd_board.specs.Retransmit.{run_at}
 use Rattle.pd_board.specs.Loss.{pipe}
@@ -107,7 +108,7 @@ module _ (spares : SparesSacked) (now : ℕ) (c : ConnectionView) (e : Establish
       (moved (after c refl))
     where
       packet : Sent
-      packet = record { segment = data_of c first; at = now }
+      packet = record { segment = data_of c first; at = now; rule = SackFastRetransmit }
 
       out_from : (d : ConnectionView) → out_in (Some d) ≤ out_in (Some c) + octets_of first → out_in (Some d) ≤ out_in s.endpoint.connection + octets_of first
       out_from d h = subst (λ (o : Option ConnectionView). out_in (Some d) ≤ out_in o + octets_of first) (sym has) h
@@ -116,7 +117,7 @@ module _ (spares : SparesSacked) (now : ℕ) (c : ConnectionView) (e : Establish
       pipe_from d h = subst (λ (o : Option ConnectionView). pipe_of o + octets_of first ≤ pipe_of (Some d)) (sym has) h
 
       put : IsAfter (octets_of first) c (entered_on first (timing_started now first c) c.established)
-          → Leaves (IsEntered (octets_of first) s) (Ok (with_segment now first c (entered_on first (timing_started now first c) c.established) s))
+          → Leaves (IsEntered (octets_of first) s) (Ok (with_segment now SackFastRetransmit first c (entered_on first (timing_started now first c) c.established) s))
       put h = record {
         packets = packet ∷ [];
         octets = one_packet (end_with_fin packet.segment) first.start first.end (packet_ends c first);

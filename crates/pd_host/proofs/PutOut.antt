@@ -3,6 +3,7 @@ use Rattle.std.proofs.Common.{◌≡◌, ℕ, suc, ◌-◌, ◌<◌, Bool, true,
 use Rattle.std.proofs.lemmas.Bool.Decides.{nat_tests}
 use Rattle.pd_seg.specs.declared.segments.Segment.{Segment}
 use Rattle.pd_seg.specs.declared.segments.Sent.{Sent}
+use Rattle.pd_seg.specs.declared.send_rule.SendRule.{SendRule}
 use Rattle.pd_host.specs.InputResults.{Gives}
 use Rattle.pd_host.specs.Host.{with_packet}
 use Rattle.pd_host.specs.declared.halts.HostEnd.{HostEnd}
@@ -10,8 +11,8 @@ use Rattle.pd_host.specs.declared.halts.Halt.{Halt}
 use Rattle.pd_host.specs.declared.halts.Halt.TheVariants.{Limit}
 
 -- the packets with one more
-abbrev pub and_packet : ℕ → Segment → List Sent → List Sent
-and_packet now segment packets = packets ++ record { segment = segment; at = now } ∷ []
+abbrev pub and_packet : ℕ → SendRule → Segment → List Sent → List Sent
+and_packet now rule segment packets = packets ++ record { segment = segment; at = now; rule = rule } ∷ []
 
 abbrev placed : {A : Type 0} → Bool → A → Result A Halt
 placed b more = if b then Ok more else Err Limit
@@ -24,16 +25,16 @@ is_below : (n : ℕ) → nat_lt n 1024 ≡ true → n < 1024
 is_below n h = grind (arith, nat_tests)
 
 -- the packet follows the others, and takes one place
-pub put_ok : (now : ℕ) (segment : Segment) (packets new : List Sent) → with_packet now segment packets ≡ Ok new
-    → (length packets < 1024) × (new ≡ and_packet now segment packets)
-put_ok now segment packets new h =
-    let p = placed_ok (nat_lt (length packets) 1024) (and_packet now segment packets) new h in
+pub put_ok : (now : ℕ) (rule : SendRule) (segment : Segment) (packets new : List Sent) → with_packet now rule segment packets ≡ Ok new
+    → (length packets < 1024) × (new ≡ and_packet now rule segment packets)
+put_ok now rule segment packets new h =
+    let p = placed_ok (nat_lt (length packets) 1024) (and_packet now rule segment packets) new h in
     (is_below (length packets) p.0, p.1)
 
 -- a place less is left
-pub one_place_less : (now : ℕ) (segment : Segment) (packets : List Sent) → length packets < 1024
-    → 1024 - length packets ≡ suc (1024 - length (and_packet now segment packets))
-one_place_less now segment packets l = omega (arith, length-append {A = Sent})
+pub one_place_less : (now : ℕ) (rule : SendRule) (segment : Segment) (packets : List Sent) → length packets < 1024
+    → 1024 - length packets ≡ suc (1024 - length (and_packet now rule segment packets))
+one_place_less now rule segment packets l = omega (arith, length-append {A = Sent})
 
 -- the same outcome gives the same
 pub gives_same : {S : Type 0} → (outcome other : Result S Halt) (r : Result (Unit {0}) HostEnd) (new : S) → outcome ≡ other → Gives other r new → Gives outcome r new

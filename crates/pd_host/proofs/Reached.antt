@@ -15,8 +15,8 @@ use Rattle.pd_recover.specs.declared.next_segment.NextSegment.TheVariants.{Lost,
 use Rattle.pd_host.specs.AckEffects.{sent_as, fill_noted_by, fill_noted_on, entered_on}
 use Rattle.pd_host.specs.Connection.{ConnectionView}
 use Rattle.pd_host.specs.Invariants.{IsEnding, IsOfPhase, IsInBounds, IsTimed, IsReached}
-use Rattle.pd_host.specs.Sending.{is_idle, restarted_in, restarted_if_idle, with_next_past_sacked, sent_on}
-use Rattle.pd_host.specs.RttSegment.{overlaps, rtt_segment_after_sending, timing_started}
+use Rattle.pd_host.specs.Sending.{is_all_acked_and_idle_over_rto, restarted_in, restarted_if_idle, with_next_past_sacked, sent_on}
+use Rattle.pd_host.specs.RttSegment.{overlaps, rtt_segment_by_karn_after_sending, timing_started}
 use Rattle.pd_host.specs.declared.established.Established.{Established}
 use Rattle.pd_host.specs.declared.connection.ack_effects.WindowFill.{WindowFill}
 use Rattle.pd_host.specs.declared.connection.ack_effects.WindowFill.TheVariants.{NextSeg, NewData}
@@ -66,7 +66,7 @@ timed_longer now una top top' t le h = record { some = h.some; waited = h.waited
 -- a segment of new octets is timed, and none that was sent before
 timed_then : (now una top top' : ℕ) (segment : Span) (o : Option RttSegment) → una ≤ top → top ≤ top'
     → (top ≤ segment.start → (segment.start < segment.end) × (segment.end ≤ top'))
-    → IfSome o (IsTimed now una top) → IfSome (rtt_segment_after_sending now segment top o) (IsTimed now una top')
+    → IfSome o (IsTimed now una top) → IfSome (rtt_segment_by_karn_after_sending now segment top o) (IsTimed now una top')
 timed_then now una top top' segment None u t some h =
     by_test (λ (o : Option RttSegment). IfSome o (IsTimed now una top')) (nat_le top segment.start) _ None
     (λ e. let from : top ≤ segment.start = le _ _ e in
@@ -191,7 +191,7 @@ module _ (b : Settings) (now : ℕ) where
       (record { recovery_point = below.recovery_point; high_rxt = below.high_rxt; rescue_rxt = below.rescue_rxt })
 
   begun_live : (c : ConnectionView) → IsLive b now c → IsLive b now (restarted_if_idle now c)
-  begun_live c h = restarted_live c.board.smss (is_idle now c) c c.established refl h refl
+  begun_live c h = restarted_live c.board.smss (is_all_acked_and_idle_over_rto now c) c c.established refl h refl
 
   pub sending_live : KeptBySending now (IsLive b now)
   sending_live = record {

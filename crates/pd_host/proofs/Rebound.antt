@@ -6,6 +6,8 @@ use Rattle.pd_recover.specs.declared.ack_action.AckAction.TheVariants.{Ordinary,
 use Rattle.pd_recover.specs.declared.next_segment.NextSegment.{NextSegment}
 use Rattle.pd_seg.specs.declared.sack_spans.Span.{Span}
 use Rattle.pd_seg.specs.declared.segments.Segment.{Segment}
+use Rattle.pd_seg.specs.declared.send_rule.SendRule.{SendRule}
+use Rattle.pd_seg.specs.declared.send_rule.SendRule.TheVariants.{LimitedTransmit as LimitedBy3042, FastRetransmit as FastBy5681, SackFastRetransmit}
 use Rattle.pd_settings.specs.declared.settings.Settings.{Settings}
 use Rattle.pd_host.specs.AckEffects.{OnTheWay, one_filled, sender_of, pipe_of, filled, push_data_segment_to_outbox, entered_on, entry, after_ack_action, taking, ack_taken}
 use Rattle.pd_host.specs.Connection.{ConnectionView}
@@ -63,20 +65,20 @@ filled_again b now filling s =
     ap sender_of (alike (rebound_too b) (fill_finds filling) (fill_sends now filling) (λ u. refl) (λ sent u. fill_again b now filling sent u.0.endpoint.connection u) (places_left s) t)
     ∙ sender_again b (repeated (fill_finds filling) (fill_sends now filling) (places_left s) t)
 
-put_again : (b : Settings) (now : ℕ) (segment : Span) (before after : ConnectionView) (s : SenderState)
-    → push_data_segment_to_outbox now segment before after (with_settings b s) ≡ again b (push_data_segment_to_outbox now segment before after s)
-put_again b now segment before after s =
-    either_mapped (with_settings b) (has_place s.endpoint.outbox) (Ok (with_segment now segment before after s)) (Err Limit)
-    (Ok (with_segment now segment before after (with_settings b s))) (Err Limit) refl refl
+put_again : (b : Settings) (now : ℕ) (rule : SendRule) (segment : Span) (before after : ConnectionView) (s : SenderState)
+    → push_data_segment_to_outbox now rule segment before after (with_settings b s) ≡ again b (push_data_segment_to_outbox now rule segment before after s)
+put_again b now rule segment before after s =
+    either_mapped (with_settings b) (has_place s.endpoint.outbox) (Ok (with_segment now rule segment before after s)) (Err Limit)
+    (Ok (with_segment now rule segment before after (with_settings b s))) (Err Limit) refl refl
 
 entry_again : (b : Settings) (now : ℕ) (c : ConnectionView) (s : SenderState) → entry now c (with_settings b s) ≡ again b (entry now c s)
 entry_again b now c s =
     let segment : Span = run_at c.board.una c.board in
     let sent : ConnectionView = entered_on segment (timing_started now segment c) c.established in
     let moved : ConnectionView = entered_on segment c c.established in
-    either_mapped (with_settings b) (nat_lt segment.start segment.end) (push_data_segment_to_outbox now segment c sent s) (Ok (with_begun_connection moved s))
-    (push_data_segment_to_outbox now segment c sent (with_settings b s)) (Ok (with_begun_connection moved (with_settings b s)))
-    (put_again b now segment c sent s) refl
+    either_mapped (with_settings b) (nat_lt segment.start segment.end) (push_data_segment_to_outbox now SackFastRetransmit segment c sent s) (Ok (with_begun_connection moved s))
+    (push_data_segment_to_outbox now SackFastRetransmit segment c sent (with_settings b s)) (Ok (with_begun_connection moved (with_settings b s)))
+    (put_again b now SackFastRetransmit segment c sent s) refl
 
 led_to_again : (b : Settings) (now : ℕ) (c : ConnectionView) (s : SenderState) (next : AckAction) → after_ack_action now c (with_settings b s) next ≡ again b (after_ack_action now c s next)
 led_to_again b now c s Ordinary = ordinary_again b now s
@@ -84,10 +86,10 @@ led_to_again b now c s StepC = filled_again b now NextSeg s
 led_to_again b now c s Entry =
     ap (then_on (filled now NextSeg)) (entry_again b now c s) ∙ then_mapped (with_settings b) (with_settings b) (filled now NextSeg) (entry now c s) (filled_again b now NextSeg)
 led_to_again b now c s LimitedTransmit = filled_again b now NewData s
-led_to_again b now c s (NewSegment segment) = put_again b now segment c (sent_on now segment c) s
+led_to_again b now c s (NewSegment segment) = put_again b now LimitedBy3042 segment c (sent_on now segment c) s
 led_to_again b now c s (FastRetransmit segment) =
-    ap (then_on (ordinary now)) (put_again b now segment c (timing_started now segment c) s)
-    ∙ then_mapped (with_settings b) (with_settings b) (ordinary now) (push_data_segment_to_outbox now segment c (timing_started now segment c) s) (ordinary_again b now)
+    ap (then_on (ordinary now)) (put_again b now FastBy5681 segment c (timing_started now segment c) s)
+    ∙ then_mapped (with_settings b) (with_settings b) (ordinary now) (push_data_segment_to_outbox now FastBy5681 segment c (timing_started now segment c) s) (ordinary_again b now)
 led_to_again b now c s Nothing = refl
 
 -- taking a segment consults no settings

@@ -24,7 +24,7 @@ use Rattle.pd_host.specs.Calls.{with_stream, with_nagle}
 use Rattle.pd_host.specs.Connection.{ConnectionView}
 use Rattle.pd_host.specs.Handshake.{before_eol}
 use Rattle.pd_host.specs.Invariants.{RecoversBelow, IsBelowPoint}
-use Rattle.pd_host.specs.Sending.{is_idle, restarted_in, restarted_if_idle}
+use Rattle.pd_host.specs.Sending.{is_all_acked_and_idle_over_rto, restarted_in, restarted_if_idle}
 use Rattle.pd_host.specs.RttSegment.{is_measured, measured, with_sample, with_timer_updated}
 use Rattle.pd_host.specs.declared.established.Established.{Established}
 use Rattle.pd_host.specs.declared.connection.ack_effects.WindowFill.{WindowFill}
@@ -196,7 +196,7 @@ begun_same una smss idle None h = h
 begun_same una smss idle (Some e) h = h
 
 pub begun_below : (now : ℕ) (c : ConnectionView) → IsBelowPoint c → IsBelowPoint (restarted_if_idle now c)
-begun_below now c h sack = begun_same c.board.una c.board.smss (is_idle now c) c.established (h sack)
+begun_below now c h sack = begun_same c.board.una c.board.smss (is_all_acked_and_idle_over_rto now c) c.established (h sack)
 
 -- another stream, or Nagle's algorithm
 stream_same : (una : ℕ) (d : StreamState) (o : Option Established) → RecoversBelow una o → RecoversBelow una (option_map {T = Established} (λ e. record e { stream_state = d }) o)

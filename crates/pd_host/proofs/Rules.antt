@@ -13,7 +13,7 @@ use Rattle.pd_host.specs.Arrivals.{failed_check_of, reset_of, with_peer_fin}
 use Rattle.pd_host.specs.Calls.{stream_of, is_open, is_unaccepted, with_stream, with_nagle, with_queued, free_of, closed_stream}
 use Rattle.pd_host.specs.Connection.{ConnectionView}
 use Rattle.pd_host.specs.Expiries.{due_by, resent_by, expired_by}
-use Rattle.pd_host.specs.Handshake.{is_supported_syn_for_listener, connection_begun, established_by}
+use Rattle.pd_host.specs.Handshake.{is_supported_syn_while_listening, connection_begun, established_by}
 use Rattle.pd_host.specs.Sending.{value_on, ordinary_segment, restarted_if_idle, with_next_past_sacked, sent_on}
 use Rattle.pd_host.specs.RttSegment.{timing_started}
 use Rattle.pd_host.specs.declared.established.Established.{Established}
@@ -68,7 +68,7 @@ pub record KeptByAcks (now : ℕ) (C D : ConnectionView → Type 0) : Type 0 whe
 
 -- a connection begins
 abbrev pub HoldsFirst : ℕ → (Settings → ConnectionView → Type 0) → Type 0
-HoldsFirst now C = (b : Settings) (listener : ListenState) (segment : Segment) → is_supported_syn_for_listener listener segment ≡ true → C b (connection_begun now b segment)
+HoldsFirst now C = (b : Settings) (listener : ListenState) (segment : Segment) → is_supported_syn_while_listening listener segment ≡ true → C b (connection_begun now b segment)
 
 -- arrivals on a connection: C holds between inputs, and D while one is answered by data
 pub record KeptByArrivals (now : ℕ) (b : Settings) (C D : ConnectionView → Type 0) : Type 0 where

@@ -8,7 +8,7 @@ use Rattle.pd_board.specs.Octets.{contains, greatest_where, after}
 use Rattle.pd_board.specs.Board.{BoardView}
 use Rattle.pd_recover.specs.declared.next_segment.NextSegment.{NextSegment}
 use Rattle.pd_recover.specs.declared.next_segment.NextSegment.TheVariants.{Lost, New, Hole, Rescue}
-use Rattle.pd_recover.specs.NextSeg.{lost_run, new_segment_on_board_within_rwnd, hole_run, rescue_run, next_send, step_c_segment, limited_transmit_segment, has_room_for_segment}
+use Rattle.pd_recover.specs.NextSeg.{lost_run, board_new_segment_at_top_if_whole_in_rwnd, hole_run, rescue_run, next_send, step_c_segment, limited_transmit_segment, has_room_for_segment}
 use Rattle.pd_recover.specs.Cong.{CongView}
 use Rattle.pd_recover.proofs.Chosen.{AllOf, one_of, either_of, map_of, allowed_of}
 use Rattle.pd_recover.proofs.Found.{least, greatest}
@@ -65,7 +65,7 @@ run_again s x from to = record {
   outstanding = omega (arith, from, to);
 }
 
-pub data_new : (rwnd : ℕ) (s : BoardView) → AllOf (IsNew s) (new_segment_on_board_within_rwnd rwnd s)
+pub data_new : (rwnd : ℕ) (s : BoardView) → AllOf (IsNew s) (board_new_segment_at_top_if_whole_in_rwnd rwnd s)
 data_new rwnd s =
     allowed_of (IsNew s) _ _ (λ passed.
     let some : s.top < s.top + min s.smss (s.end - s.top) = lt _ _ (first_of_two _ _ passed) in
@@ -88,7 +88,7 @@ rescue_again s some =
 pub next_fits : (rwnd : ℕ) (s : BoardView) (w : CongView) → IsOrdered s → AllOf (IsNext s) (next_send rwnd s w)
 next_fits rwnd s w known =
     either_of (IsNext s) (lost_run s w) _ (map_of (IsNext s) (λ x. Lost (run_at x s)) (next_lost w.high_rxt s) (λ x e. let h = least _ s.una s.top x e in run_again s x h.from h.to))
-    (either_of (IsNext s) (option_map (λ segment. New segment) (new_segment_on_board_within_rwnd rwnd s)) _ (map_of (IsNext s) (λ segment. New segment) (new_segment_on_board_within_rwnd rwnd s) (data_new rwnd s))
+    (either_of (IsNext s) (option_map (λ segment. New segment) (board_new_segment_at_top_if_whole_in_rwnd rwnd s)) _ (map_of (IsNext s) (λ segment. New segment) (board_new_segment_at_top_if_whole_in_rwnd rwnd s) (data_new rwnd s))
     (either_of (IsNext s) (hole_run s w) (rescue_run s w) (map_of (IsNext s) (λ x. Hole (run_at x s)) (find_unsacked_octet_by_nextseg_rule_3 w.high_rxt s) (λ x e. let h = least _ s.una s.top x e in run_again s x h.from h.to))
     (allowed_of (IsNext s) _ _ (λ _. map_of (IsNext s) (λ segment. Rescue segment) (rescue s) (rescue_again s (omega (arith, known.smss_low)))))))
 

@@ -5,6 +5,7 @@ use Rattle.pd_settings.specs.declared.settings.Settings.{Settings}
 use Rattle.pd_seg.specs.declared.sack_spans.Span.{Span}
 use Rattle.pd_seg.specs.declared.segments.Segment.{Segment}
 use Rattle.pd_seg.specs.declared.segments.Sent.{Sent}
+use Rattle.pd_seg.specs.declared.send_rule.SendRule.{SendRule}
 use Rattle.pd_host.specs.Connection.{ConnectionView}
 use Rattle.pd_host.specs.Sending.{with_begun_connection, with_packet_sent, places_left, found, sent_ordinarily, ready, ordinary}
 use Rattle.pd_host.specs.declared.endpoint.SenderState.{SenderState}
@@ -17,15 +18,15 @@ TakesOne now O = (packets : List Sent) (p : Sent) → p.at ≡ now → O packets
 
 module _ (now : ℕ) (O : List Sent → Type 0) (C : Settings → ConnectionView → Type 0) (more : (b : Settings) (c : ConnectionView) → C b c → TakesOne now O) where
   -- a segment is put out, and leaves this connection
-  pub placed_where : (segment : Segment) (c : ConnectionView) (s : SenderState) → Holds O C s → C s.settings c
-      → Holds O C (with_packet_sent now segment (with_begun_connection c s))
-  placed_where segment c s h d = record { packets = more s.settings c d s.endpoint.outbox _ refl h.packets; connection = d }
+  pub placed_where : (rule : SendRule) (segment : Segment) (c : ConnectionView) (s : SenderState) → Holds O C s → C s.settings c
+      → Holds O C (with_packet_sent now rule segment (with_begun_connection c s))
+  placed_where rule segment c s h d = record { packets = more s.settings c d s.endpoint.outbox _ refl h.packets; connection = d }
 
   module _ (rules : (b : Settings) → KeptBySending now (C b)) where
     ordinarily : (o : Option ConnectionView) (segment : Span) (s : SenderState) → Holds O C s → IfSome o (C s.settings) → found o ≡ Some segment
         → Holds O C (sent_ordinarily now segment o s)
     ordinarily None segment s h d e = h
-    ordinarily (Some c) segment s h d e = placed_where _ _ s h ((rules s.settings).sent c segment d e)
+    ordinarily (Some c) segment s h d e = placed_where _ _ _ s h ((rules s.settings).sent c segment d e)
 
     made_ready : (o : Option ConnectionView) (s : SenderState) → Holds O C s → IfSome o (C s.settings) → Holds O C (ready now o s)
     made_ready None s h d = h
@@ -41,7 +42,7 @@ module _ (now : ℕ) (O : List Sent → Type 0) (C : Settings → ConnectionView
 -- the same where any packet may be put out
 
 pub placed : (now : ℕ) (O : List Sent → Type 0) (C : Settings → ConnectionView → Type 0) → TakesOne now O
-    → (segment : Segment) (c : ConnectionView) (s : SenderState) → Holds O C s → C s.settings c → Holds O C (with_packet_sent now segment (with_begun_connection c s))
+    → (rule : SendRule) (segment : Segment) (c : ConnectionView) (s : SenderState) → Holds O C s → C s.settings c → Holds O C (with_packet_sent now rule segment (with_begun_connection c s))
 placed now O C more = placed_where now O C (λ b c d. more)
 
 pub ordinary_holds : (now : ℕ) (O : List Sent → Type 0) (C : Settings → ConnectionView → Type 0) → TakesOne now O

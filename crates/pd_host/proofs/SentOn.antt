@@ -10,12 +10,14 @@ use Rattle.pd_recover.specs.Prr.{no_prr}
 use Rattle.pd_recover.specs.NextSeg.{segment_of}
 use Rattle.pd_seg.specs.declared.sack_spans.Span.{Span}
 use Rattle.pd_seg.specs.declared.segments.Sent.{Sent}
+use Rattle.pd_seg.specs.declared.send_rule.SendRule.{SendRule}
+use Rattle.pd_seg.specs.declared.send_rule.SendRule.TheVariants.{LimitedTransmit as LimitedBy3042, FastRetransmit as FastBy5681, SackFastRetransmit}
 use Rattle.pd_timer.specs.Rto.{initial}
-use Rattle.pd_host.specs.AckEffects.{OnTheWay, next_fill, sent_as, fill_noted_on, one_filled, sender_of, pipe_of, filled, push_data_segment_to_outbox, entered_on, entry, after_ack_action}
+use Rattle.pd_host.specs.AckEffects.{OnTheWay, fill_rule, next_fill, sent_as, fill_noted_on, one_filled, sender_of, pipe_of, filled, push_data_segment_to_outbox, entered_on, entry, after_ack_action}
 use Rattle.pd_host.specs.Connection.{ConnectionView}
 use Rattle.pd_host.specs.Packets.{data_of}
 use Rattle.pd_host.specs.OutboxLimit.{has_place}
-use Rattle.pd_host.specs.Sending.{places_left, with_begun_connection, is_idle, restarted_in, restarted_if_idle, with_next_past_sacked, sent_on, with_segment, found, sent_ordinarily, ready, sent_until_done, ordinary}
+use Rattle.pd_host.specs.Sending.{places_left, with_begun_connection, is_all_acked_and_idle_over_rto, restarted_in, restarted_if_idle, with_next_past_sacked, sent_on, with_segment, found, ordinary_rule, sent_ordinarily, ready, sent_until_done, ordinary}
 use Rattle.pd_host.specs.RttSegment.{timing_started}
 use Rattle.pd_host.specs.declared.established.Established.{Established}
 use Rattle.pd_host.specs.declared.connection.ack_effects.WindowFill.{WindowFill}
@@ -54,7 +56,7 @@ rested idle smss (Some e) = refl
 
 pub begun_still : (now : ℕ) (c : ConnectionView) → still (with_next_past_sacked (restarted_if_idle now c)) ≡ still c
 begun_still now c =
-    ap (λ (o : Option Established). record (resting c None) { established = o }) (rested (is_idle now c) c.board.smss c.established)
+    ap (λ (o : Option Established). record (resting c None) { established = o }) (rested (is_all_acked_and_idle_over_rto now c) c.board.smss c.established)
 
 -- something was sent at a moment: packets follow the others, and all else is as it was
 pub record IsSentOn (now : ℕ) (s t : SenderState) : Type 0 where
@@ -96,10 +98,10 @@ then_more now r s t a b = record {
 }
 
 -- a segment
-pub one_sent : (now : ℕ) (segment : Span) (before c : ConnectionView) (s : SenderState) → stills (Some c) ≡ stills s.endpoint.connection
-    → IsSentOn now s (with_segment now segment before c s)
-one_sent now segment before c s same = record {
-  packets = record { segment = data_of before segment; at = now } ∷ [];
+pub one_sent : (now : ℕ) (rule : SendRule) (segment : Span) (before c : ConnectionView) (s : SenderState) → stills (Some c) ≡ stills s.endpoint.connection
+    → IsSentOn now s (with_segment now rule segment before c s)
+one_sent now rule segment before c s same = record {
+  packets = record { segment = data_of before segment; at = now; rule = rule } ∷ [];
   moments = (refl, tt);
   outbox = refl;
   settings = refl;
@@ -131,7 +133,7 @@ sends now segment t = sent_ordinarily now segment t.endpoint.connection t
 once : (now : ℕ) (segment : Span) (s : SenderState) (o : Option ConnectionView) → s.endpoint.connection ≡ o
     → IsSentOn now s (sent_ordinarily now segment o s)
 once now segment s None e = nothing_sent now s
-once now segment s (Some c) e = one_sent now segment c (with_next_past_sacked (sent_on now segment c)) s (sym (ap stills e))
+once now segment s (Some c) e = one_sent now (ordinary_rule c) segment c (with_next_past_sacked (sent_on now segment c)) s (sym (ap stills e))
 
 made_ready : (now : ℕ) (s : SenderState) (o : Option ConnectionView) → s.endpoint.connection ≡ o → IsSentOn now s (ready now o s)
 made_ready now s None e = nothing_sent now s
@@ -188,7 +190,7 @@ fill_once : (now : ℕ) (filling : WindowFill) (sent : NextSegment) (t : OnTheWa
     → IsSentOn now t.0 (one_filled now filling sent o t).0
 fill_once now filling sent t None e = nothing_sent now t.0
 fill_once now filling sent t (Some c) e =
-    one_sent now (segment_of sent) c (fill_noted_on filling sent (sent_as now sent c) c.established) t.0
+    one_sent now (fill_rule filling sent) (segment_of sent) c (fill_noted_on filling sent (sent_as now sent c) c.established) t.0
     (ap (λ (d : ConnectionView). Some d) (fill_still now filling sent c) ∙ sym (ap stills e))
 
 pub sender_leaves : (P : SenderState → Type 0) (r : Result OnTheWay Halt) → Leaves (λ t. P t.0) r → Leaves P (sender_of r)
@@ -204,11 +206,11 @@ filled_sends now filling r s h =
 
 -- The sending that an ACK leads to
 
-put_sends : (now : ℕ) (segment : Span) (before c : ConnectionView) (s : SenderState) → stills (Some c) ≡ stills s.endpoint.connection
-    → Leaves (IsSentOn now s) (push_data_segment_to_outbox now segment before c s)
-put_sends now segment before c s same =
-    either (IsSentOn now s) (has_place s.endpoint.outbox) (Ok (with_segment now segment before c s)) (Err Limit)
-    (one_sent now segment before c s same) tt
+put_sends : (now : ℕ) (rule : SendRule) (segment : Span) (before c : ConnectionView) (s : SenderState) → stills (Some c) ≡ stills s.endpoint.connection
+    → Leaves (IsSentOn now s) (push_data_segment_to_outbox now rule segment before c s)
+put_sends now rule segment before c s same =
+    either (IsSentOn now s) (has_place s.endpoint.outbox) (Ok (with_segment now rule segment before c s)) (Err Limit)
+    (one_sent now rule segment before c s same) tt
 
 pub entered_still : (segment : Span) (c : ConnectionView) (o : Option Established) → c.established ≡ o → still (entered_on segment c o) ≡ still c
 entered_still segment c None e = refl
@@ -219,8 +221,8 @@ entry_sends now c s e =
     let segment : Span = run_at c.board.una c.board in
     let sent : ConnectionView = entered_on segment (timing_started now segment c) c.established in
     let moved : ConnectionView = entered_on segment c c.established in
-    either (IsSentOn now s) (nat_lt segment.start segment.end) (push_data_segment_to_outbox now segment c sent s) (Ok (with_begun_connection moved s))
-    (put_sends now segment c sent s
+    either (IsSentOn now s) (nat_lt segment.start segment.end) (push_data_segment_to_outbox now SackFastRetransmit segment c sent s) (Ok (with_begun_connection moved s))
+    (put_sends now SackFastRetransmit segment c sent s
     (ap (λ (d : ConnectionView). Some d) (entered_still segment (timing_started now segment c) c.established refl) ∙ sym (ap stills e)))
     (only_moved now moved s (ap (λ (d : ConnectionView). Some d) (entered_still segment c c.established refl) ∙ sym (ap stills e)))
 
@@ -231,8 +233,8 @@ led_to_sends now c s StepC e = filled_sends now NextSeg s s (nothing_sent now s)
 led_to_sends now c s Entry e =
     then_leaves (IsSentOn now s) (IsSentOn now s) (filled now NextSeg) (entry now c s) (entry_sends now c s e) (λ t h. filled_sends now NextSeg s t h)
 led_to_sends now c s LimitedTransmit e = filled_sends now NewData s s (nothing_sent now s)
-led_to_sends now c s (NewSegment segment) e = put_sends now segment c (sent_on now segment c) s (sym (ap stills e))
+led_to_sends now c s (NewSegment segment) e = put_sends now LimitedBy3042 segment c (sent_on now segment c) s (sym (ap stills e))
 led_to_sends now c s (FastRetransmit segment) e =
-    then_leaves (IsSentOn now s) (IsSentOn now s) (ordinary now) (push_data_segment_to_outbox now segment c (timing_started now segment c) s)
-    (put_sends now segment c (timing_started now segment c) s (sym (ap stills e))) (λ t h. ordinary_sends now s t h)
+    then_leaves (IsSentOn now s) (IsSentOn now s) (ordinary now) (push_data_segment_to_outbox now FastBy5681 segment c (timing_started now segment c) s)
+    (put_sends now FastBy5681 segment c (timing_started now segment c) s (sym (ap stills e))) (λ t h. ordinary_sends now s t h)
 led_to_sends now c s Nothing e = nothing_sent now s

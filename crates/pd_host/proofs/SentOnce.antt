@@ -8,18 +8,20 @@ use Rattle.pd_seg.specs.declared.call_results.Answer.{Answer}
 use Rattle.pd_seg.specs.declared.sack_spans.Span.{Span}
 use Rattle.pd_seg.specs.declared.segments.Segment.{Segment}
 use Rattle.pd_seg.specs.declared.segments.Sent.{Sent}
+use Rattle.pd_seg.specs.declared.send_rule.SendRule.{SendRule}
+use Rattle.pd_seg.specs.declared.send_rule.SendRule.TheVariants.{SynAck, Ack, Rst}
 use Rattle.pd_timer.specs.Rto.{sampled}
 use Rattle.pd_host.specs.AckEffects.{newly_acked, with_blocks, with_number, with_ack, with_timing, can_update_window, taking, ack_taken}
 use Rattle.pd_host.specs.Arrivals.{check_outcome, arrived_on, arrived, failed_check_of, reset_of, with_peer_fin}
 use Rattle.pd_host.specs.Calls.{called}
 use Rattle.pd_host.specs.Connection.{ConnectionView}
-use Rattle.pd_host.specs.Expiries.{segment_again, connection_expired, expired, advanced}
-use Rattle.pd_host.specs.Handshake.{is_supported_syn_for_listener, connection_begun, answered_syn, syn_settings, syn_octet, established_by, establishment_settings, syn_acked, scaled_window_in, with_window}
+use Rattle.pd_host.specs.Expiries.{segment_again, expiry_rule, connection_expired, expired, advanced}
+use Rattle.pd_host.specs.Handshake.{is_supported_syn_while_listening, connection_begun, answered_syn, syn_settings, syn_octet, established_by, establishment_settings, syn_acked, scaled_window_in, with_window}
 use Rattle.pd_host.specs.Packets.{data_of, ack_of, refusal_of, syn_ack_of}
 use Rattle.pd_host.specs.Host.{beside, with_outbox}
 use Rattle.pd_host.specs.Sending.{places_left, with_begun_connection, with_segment}
 use Rattle.pd_host.specs.SendingLaws.{top_in, rtt_segment_in, end_with_flags, touches, AreApart, IsSentOnce, TimesNew, MeasuresWhatIsSentOnce}
-use Rattle.pd_host.specs.RttSegment.{overlaps, rtt_segment_after_sending, is_measured, measured, with_sample, with_timer_updated}
+use Rattle.pd_host.specs.RttSegment.{overlaps, rtt_segment_by_karn_after_sending, is_measured, measured, with_sample, with_timer_updated}
 use Rattle.pd_host.specs.declared.established.Established.{Established}
 use Rattle.pd_host.specs.declared.halts.Halt.TheVariants.{Limit, Unsupported}
 use Rattle.pd_host.specs.declared.connection.segment_check.SegmentCheck.{SegmentCheck}
@@ -191,12 +193,12 @@ nothing x e = cc
 abbrev IsQueuedIfNew : ConnectionView → Span → Type 0
 IsQueuedIfNew c segment = c.board.top ≤ segment.start → segment.start < segment.end → segment.end ≤ c.board.end
 
-newly_timed : (b : Bool) (now : ℕ) (segment : Span) (c : ConnectionView) (x : RttSegment) → IsQueuedIfNew c segment → nat_le c.board.top segment.start ≡ b
+newly_timed : (b : Bool) (now : ℕ) (rule : SendRule) (segment : Span) (c : ConnectionView) (x : RttSegment) → IsQueuedIfNew c segment → nat_le c.board.top segment.start ≡ b
     → (if b then Some (record { segment = segment; sent_at = now }) else None) ≡ Some x
-    → IsSentOnce c.board.top x (record { segment = data_of c segment; at = now } ∷ [])
-newly_timed true now segment c x queued t h =
+    → IsSentOnce c.board.top x (record { segment = data_of c segment; at = now; rule = rule } ∷ [])
+newly_timed true now rule segment c x queued t h =
     let timing : RttSegment = record { segment = segment; sent_at = now } in
-    let packet : Sent = record { segment = data_of c segment; at = now } in
+    let packet : Sent = record { segment = data_of c segment; at = now; rule = rule } in
     let is : timing ≡ x = cc in
     subst (λ (y : RttSegment). IsSentOnce c.board.top y (packet ∷ [])) is (record {
       above = within c.board.top segment.start t;
@@ -210,33 +212,33 @@ newly_timed true now segment c x queued t h =
       apart_before = tt;
       apart_after = tt;
     })
-newly_timed false now segment c x queued t h = absurd (nothing x h)
+newly_timed false now rule segment c x queued t h = absurd (nothing x h)
 
-still_timed : (b : Bool) (now : ℕ) (segment : Span) (c : ConnectionView) (t x : RttSegment) → overlaps t.segment segment ≡ b
+still_timed : (b : Bool) (now : ℕ) (rule : SendRule) (segment : Span) (c : ConnectionView) (t x : RttSegment) → overlaps t.segment segment ≡ b
     → (if b then None else Some t) ≡ Some x
-    → (Some t ≡ Some x) × AreApart x (record { segment = data_of c segment; at = now } ∷ [])
-still_timed true now segment c t x o h = absurd (nothing x h)
-still_timed false now segment c t x o h =
-    let packet : Sent = record { segment = data_of c segment; at = now } in
+    → (Some t ≡ Some x) × AreApart x (record { segment = data_of c segment; at = now; rule = rule } ∷ [])
+still_timed true now rule segment c t x o h = absurd (nothing x h)
+still_timed false now rule segment c t x o h =
+    let packet : Sent = record { segment = data_of c segment; at = now; rule = rule } in
     let is : t ≡ x = cc in
     let apart : touches t packet ≡ false =
     narrow (nat_lt t.segment.start segment.end) (nat_lt segment.start t.segment.end) segment.start (end_with_flags packet.segment) segment.end t.segment.start t.segment.end
     refl refl (packet_ends c segment) o in
     (h, (subst (λ (y : RttSegment). touches y packet ≡ false) is apart, tt))
 
-one_origin : (now : ℕ) (segment : Span) (c : ConnectionView) (o : Option RttSegment) (x : RttSegment) → IsQueuedIfNew c segment → c.rtt_segment ≡ o
-    → rtt_segment_after_sending now segment c.board.top o ≡ Some x
-    → ((c.rtt_segment ≡ Some x) × AreApart x (record { segment = data_of c segment; at = now } ∷ []))
-    ⊎ IsSentOnce c.board.top x (record { segment = data_of c segment; at = now } ∷ [])
-one_origin now segment c None x queued e h = inr (newly_timed (nat_le c.board.top segment.start) now segment c x queued refl h)
-one_origin now segment c (Some t) x queued e h =
-    let kept = still_timed (overlaps t.segment segment) now segment c t x refl h in
+one_origin : (now : ℕ) (rule : SendRule) (segment : Span) (c : ConnectionView) (o : Option RttSegment) (x : RttSegment) → IsQueuedIfNew c segment → c.rtt_segment ≡ o
+    → rtt_segment_by_karn_after_sending now segment c.board.top o ≡ Some x
+    → ((c.rtt_segment ≡ Some x) × AreApart x (record { segment = data_of c segment; at = now; rule = rule } ∷ []))
+    ⊎ IsSentOnce c.board.top x (record { segment = data_of c segment; at = now; rule = rule } ∷ [])
+one_origin now rule segment c None x queued e h = inr (newly_timed (nat_le c.board.top segment.start) now rule segment c x queued refl h)
+one_origin now rule segment c (Some t) x queued e h =
+    let kept = still_timed (overlaps t.segment segment) now rule segment c t x refl h in
     inl (e ∙ kept.0, kept.1)
 
-sent : (now : ℕ) (segment : Span) (c d : ConnectionView) (s : SenderState) → s.endpoint.connection ≡ Some c → IsSending now segment c d
-    → IsTimed s (with_segment now segment c d s)
-sent now segment c d s e h =
-    let packet : Sent = record { segment = data_of c segment; at = now } in
+sent : (now : ℕ) (rule : SendRule) (segment : Span) (c d : ConnectionView) (s : SenderState) → s.endpoint.connection ≡ Some c → IsSending now segment c d
+    → IsTimed s (with_segment now rule segment c d s)
+sent now rule segment c d s e h =
+    let packet : Sent = record { segment = data_of c segment; at = now; rule = rule } in
     record {
       packets = packet ∷ [];
       outbox = refl;
@@ -244,7 +246,7 @@ sent now segment c d s e h =
       below = (λ lt. lower (end_with_flags packet.segment) segment.end d.board.top (packet_ends c segment) h.within, tt);
       origin = λ x k.
           subst (λ (o : Option ConnectionView). ((rtt_segment_in o ≡ Some x) × AreApart x (packet ∷ [])) ⊎ IsSentOnce (top_in o) x (packet ∷ [])) (sym e)
-          (one_origin now segment c c.rtt_segment x h.queued refl (sym h.rtt_segment ∙ k));
+          (one_origin now rule segment c c.rtt_segment x h.queued refl (sym h.rtt_segment ∙ k));
     }
 
 timed_rules : (now : ℕ) → Goes now IsTimed
@@ -277,16 +279,16 @@ unchanged s t out rtt_segment =
     ([], sym (append-nil t.endpoint.outbox) ∙ ap (λ (l : List Sent). l ++ []) out, λ x h. inl (rtt_segment x h, tt))
 
 -- a packet without octets more
-one_more : (b : Bool) (now : ℕ) (segment : Segment) (s : SenderState) → ((x : RttSegment) → touches x (record { segment = segment; at = now }) ≡ false)
-    → Leaves (TimesNew s) (beside s (with_outbox s.endpoint (if b then Ok (s.endpoint.outbox ++ record { segment = segment; at = now } ∷ []) else Err Limit)))
-one_more true now segment s apart =
-    let packet : Sent = record { segment = segment; at = now } in
+one_more : (b : Bool) (now : ℕ) (rule : SendRule) (segment : Segment) (s : SenderState) → ((x : RttSegment) → touches x (record { segment = segment; at = now; rule = rule }) ≡ false)
+    → Leaves (TimesNew s) (beside s (with_outbox s.endpoint (if b then Ok (s.endpoint.outbox ++ record { segment = segment; at = now; rule = rule } ∷ []) else Err Limit)))
+one_more true now rule segment s apart =
+    let packet : Sent = record { segment = segment; at = now; rule = rule } in
     (packet ∷ [], refl, λ x h. inl (h, (apart x, tt)))
-one_more false now segment s apart = tt
+one_more false now rule segment s apart = tt
 
-answered_more : (now : ℕ) (segment : Segment) (s : SenderState) → ((x : RttSegment) → touches x (record { segment = segment; at = now }) ≡ false)
-    → Leaves (TimesNew s) (beside s (with_outbox s.endpoint (if nat_lt (length s.endpoint.outbox) 1024 then Ok (s.endpoint.outbox ++ record { segment = segment; at = now } ∷ []) else Err Limit)))
-answered_more now segment s apart = one_more (nat_lt (length s.endpoint.outbox) 1024) now segment s apart
+answered_more : (now : ℕ) (rule : SendRule) (segment : Segment) (s : SenderState) → ((x : RttSegment) → touches x (record { segment = segment; at = now; rule = rule }) ≡ false)
+    → Leaves (TimesNew s) (beside s (with_outbox s.endpoint (if nat_lt (length s.endpoint.outbox) 1024 then Ok (s.endpoint.outbox ++ record { segment = segment; at = now; rule = rule } ∷ []) else Err Limit)))
+answered_more now rule segment s apart = one_more (nat_lt (length s.endpoint.outbox) 1024) now rule segment s apart
 
 -- a measured segment isn't timed any more, and another one stays
 
@@ -340,25 +342,25 @@ by_ruling : (r : Option SegmentCheck) (segment : Segment) (now : ℕ) (s : Sende
     → Leaves (TimesNew s) (check_outcome now segment c s r)
 by_ruling (Some NotRun) segment now s c e = tt
 by_ruling (Some StrayRst) segment now s c e = unchanged s s refl (λ x h. h)
-by_ruling (Some OutsideWindow) segment now s c e = answered_more now (ack_of c) s (λ x. empty_apart c.board.top x.segment.start x.segment.end)
+by_ruling (Some OutsideWindow) segment now s c e = answered_more now Ack (ack_of c) s (λ x. empty_apart c.board.top x.segment.start x.segment.end)
 by_ruling (Some ExactRst) segment now s c e = unchanged s (with_begun_connection (reset_of c) s) refl (λ x h. absurd (nothing x h))
-by_ruling (Some ChallengedRst) segment now s c e = answered_more now (ack_of c) s (λ x. empty_apart c.board.top x.segment.start x.segment.end)
+by_ruling (Some ChallengedRst) segment now s c e = answered_more now Ack (ack_of c) s (λ x. empty_apart c.board.top x.segment.start x.segment.end)
 by_ruling (Some WithoutAck) segment now s c e = unchanged s s refl (λ x h. h)
 by_ruling (Some FirstAck) segment now s c e =
     let left : SenderState = with_begun_connection (established_by now s.settings segment c) s in
     unchanged s (record left { consulted_settings = establishment_settings s.consulted_settings }) refl
     (λ x h. ap rtt_segment_in e ∙ measured_timed now s.settings.granularity_us 1 (syn_acked c) (syn_acked c).rtt_segment x h)
-by_ruling (Some RefusedAck) segment now s c e = answered_more now (refusal_of segment.ack) s (λ x. empty_apart segment.ack x.segment.start x.segment.end)
-by_ruling (Some EarlyAck) segment now s c e = answered_more now (ack_of c) s (λ x. empty_apart c.board.top x.segment.start x.segment.end)
+by_ruling (Some RefusedAck) segment now s c e = answered_more now Rst (refusal_of segment.ack) s (λ x. empty_apart segment.ack x.segment.start x.segment.end)
+by_ruling (Some EarlyAck) segment now s c e = answered_more now Ack (ack_of c) s (λ x. empty_apart c.board.top x.segment.start x.segment.end)
 by_ruling (Some OldAck) segment now s c e = unchanged s s refl (λ x h. h)
 by_ruling None segment now s c e = taken_times_new now segment c s c.established e
 
 -- our SYN is timed from the moment that it is put out at
 opened_so : (b : Bool) (now : ℕ) (c : ConnectionView) (s : SenderState) → s.endpoint.connection ≡ None
     → c.rtt_segment ≡ Some (record { segment = syn_octet; sent_at = now })
-    → Leaves (TimesNew s) (beside (record s { consulted_settings = syn_settings s.consulted_settings }) (with_outbox (record s.endpoint { connection = Some c }) (if b then Ok (s.endpoint.outbox ++ record { segment = syn_ack_of c; at = now } ∷ []) else Err Limit)))
+    → Leaves (TimesNew s) (beside (record s { consulted_settings = syn_settings s.consulted_settings }) (with_outbox (record s.endpoint { connection = Some c }) (if b then Ok (s.endpoint.outbox ++ record { segment = syn_ack_of c; at = now; rule = SynAck } ∷ []) else Err Limit)))
 opened_so true now c s e rtt_segment =
-    let packet : Sent = record { segment = syn_ack_of c; at = now } in
+    let packet : Sent = record { segment = syn_ack_of c; at = now; rule = SynAck } in
     let timing : RttSegment = record { segment = syn_octet; sent_at = now } in (
       packet ∷ [],
       refl,
@@ -386,7 +388,7 @@ opened_so false now c s e rtt_segment = tt
 -- the ACK of the peer's FIN has none of its octets
 fin_times_new : (now : ℕ) (s u : SenderState) (c : ConnectionView) → u.endpoint.connection ≡ Some c → TimesNew s u → TimesNew s (after_fin now c u)
 fin_times_new now s u c e h =
-    let packet : Sent = record { segment = ack_of (with_peer_fin c); at = now } in (
+    let packet : Sent = record { segment = ack_of (with_peer_fin c); at = now; rule = Ack } in (
       h.0 ++ packet ∷ [],
       ap (λ (l : List Sent). l ++ packet ∷ []) h.1 ∙ append_assoc s.endpoint.outbox h.0 (packet ∷ []),
       λ x k. from_first s x h.0 (packet ∷ []) (empty_apart c.board.top x.segment.start x.segment.end, tt) (h.2 x (ap rtt_segment_in e ∙ k)),
@@ -396,7 +398,7 @@ on_connection : (o : Option ConnectionView) (segment : Segment) (now : ℕ) (s :
     → Leaves (TimesNew s) (arrived_on now segment s o)
 on_connection None segment now s e =
     let c : ConnectionView = connection_begun now s.settings segment in
-    either (TimesNew s) (is_supported_syn_for_listener s.endpoint.listener segment) (answered_syn now c s) (Err Unsupported)
+    either (TimesNew s) (is_supported_syn_while_listening s.endpoint.listener segment) (answered_syn now c s) (Err Unsupported)
     (opened_so (nat_lt (length s.endpoint.outbox) 1024) now c s e refl) tt
 on_connection (Some c) segment now s e =
     passed_leaves (TimesNew s) now segment c s (failed_check_of c segment) (λ u d is k. fin_times_new now s u d is k)
@@ -417,7 +419,7 @@ expired_timed at c (Some e) = refl
 one_given_up : (at : ℕ) (s t : SenderState) (o : Option ConnectionView) → IsGivenUp s t → IsGivenUp s (expired at o t)
 one_given_up at s t None h = h
 one_given_up at s t (Some c) h =
-    let packet : Sent = record { segment = segment_again c c.established; at = at } in
+    let packet : Sent = record { segment = segment_again c c.established; at = at; rule = expiry_rule c.established } in
     record {
       packets = h.packets ++ packet ∷ [];
       outbox = ap (λ (l : List Sent). l ++ packet ∷ []) h.outbox ∙ append_assoc s.endpoint.outbox h.packets (packet ∷ []);

@@ -10,7 +10,7 @@ use Rattle.pd_recover.specs.Laws.{StaysWithin}
 use Rattle.pd_host.specs.Arrivals.{failed_check_of, reset_of}
 use Rattle.pd_host.specs.Calls.{stream_in}
 use Rattle.pd_host.specs.Connection.{ConnectionView}
-use Rattle.pd_host.specs.Handshake.{is_listening, is_syn_alone, length_of, offered_mss, is_peer_mss_supported, is_supported_syn_for_listener, smss_of, syn_options_of, connection_begun, scaled_window_in, new_established_parts, established_by, syn_acked}
+use Rattle.pd_host.specs.Handshake.{is_listening, is_syn_alone, length_of, offered_mss, is_peer_mss_supported, is_supported_syn_while_listening, smss_of, syn_options_of, connection_begun, scaled_window_in, new_established_parts, established_by, syn_acked}
 use Rattle.pd_host.specs.Invariants.{IsOfPhase, IsTimed, IsReached}
 use Rattle.pd_host.specs.RttSegment.{is_measured, measured, with_handshake_timer_ended}
 use Rattle.pd_host.specs.declared.descriptors.ListenState.{ListenState}
@@ -26,7 +26,7 @@ mss_low : (o : Option ℕ) → is_peer_mss_supported o ≡ true → 64 ≤ unwra
 mss_low None e = omega arith
 mss_low (Some octets) e = le 64 octets e
 
-opening_mss : (listener : ListenState) (segment : Segment) → is_supported_syn_for_listener listener segment ≡ true → is_peer_mss_supported (offered_mss segment.options) ≡ true
+opening_mss : (listener : ListenState) (segment : Segment) → is_supported_syn_while_listening listener segment ≡ true → is_peer_mss_supported (offered_mss segment.options) ≡ true
 opening_mss listener segment e =
     second_of_two (length_of segment == 0) _
     (second_of_two (segment.start == 0) _ (second_of_two (is_syn_alone segment.flags) _ (second_of_two (is_listening listener) _ e)))
@@ -40,7 +40,7 @@ sooner end top e u t = grind (arith, nat_tests)
 
 module _ (b : Settings) (now : ℕ) where
   -- the SYN begins the connection
-  pub begun_reached : (listener : ListenState) (segment : Segment) → is_supported_syn_for_listener listener segment ≡ true → IsReached b now (connection_begun now b segment)
+  pub begun_reached : (listener : ListenState) (segment : Segment) → is_supported_syn_while_listening listener segment ≡ true → IsReached b now (connection_begun now b segment)
   begun_reached listener segment e =
       let low : 64 ≤ unwrap_or (offered_mss segment.options) 536 = mss_low (offered_mss segment.options) (opening_mss listener segment e) in
       record {

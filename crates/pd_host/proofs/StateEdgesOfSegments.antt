@@ -11,7 +11,7 @@ use Rattle.pd_host.specs.Calls.{stream_in}
 use Rattle.pd_host.specs.ConnStates.{state_after_handshake, state_of, state_on, conn_state, is_closed}
 use Rattle.pd_host.specs.Connection.{ConnectionView, peer_fin_in, rcv_nxt}
 use Rattle.pd_host.specs.StateDiagram.{MovesBySegment}
-use Rattle.pd_host.specs.Handshake.{is_listening, length_of, is_supported_syn_for_listener, connection_begun, answered_syn, syn_settings, established_by, syn_acked}
+use Rattle.pd_host.specs.Handshake.{is_listening, length_of, is_supported_syn_while_listening, connection_begun, answered_syn, syn_settings, established_by, syn_acked}
 use Rattle.pd_host.specs.Invariants.{IsReached, IsLawful}
 use Rattle.pd_host.specs.Host.{beside, with_outbox}
 use Rattle.pd_host.specs.Sending.{with_begun_connection}
@@ -231,7 +231,7 @@ module _ (segment : Segment) (now : ℕ) (c : ConnectionView) where
 
 -- The first segment
 
-opening_listens : (l : ListenState) (segment : Segment) → is_supported_syn_for_listener l segment ≡ true → is_listening l ≡ true
+opening_listens : (l : ListenState) (segment : Segment) → is_supported_syn_while_listening l segment ≡ true → is_listening l ≡ true
 opening_listens l segment h = first_of_two (is_listening l) _ h
 
 listens_so : (l : ListenState) → is_listening l ≡ true → state_on l None ≡ Listen
@@ -251,7 +251,7 @@ opens false segment now s a e = tt
 on_connection : (o : Option ConnectionView) (segment : Segment) (now : ℕ) (s : SenderState) → IsLawful now s → s.endpoint.connection ≡ o
     → Leaves (λ t. MovesBySegment segment (state_on s.endpoint.listener o) (conn_state t)) (arrived_on now segment s o)
 on_connection None segment now s h e =
-    opens (is_supported_syn_for_listener s.endpoint.listener segment) segment now s (state_on s.endpoint.listener None)
+    opens (is_supported_syn_while_listening s.endpoint.listener segment) segment now s (state_on s.endpoint.listener None)
     (λ is. listens_so s.endpoint.listener (opening_listens s.endpoint.listener segment is))
 on_connection (Some c) segment now s h e =
     by_ruling segment now c s.settings (at_some (IsReached s.settings now) s.endpoint.connection c e h.connection) (failed_check_of c segment) s e refl

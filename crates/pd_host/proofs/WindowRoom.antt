@@ -5,7 +5,7 @@ use Rattle.pd_board.specs.Retransmit.{run_at, most_from, next_lost, find_unsacke
 use Rattle.pd_board.specs.Loss.{is_unsacked}
 use Rattle.pd_board.specs.Octets.{contains, least_where, greatest_where, after}
 use Rattle.pd_board.specs.Board.{BoardView}
-use Rattle.pd_recover.specs.NextSeg.{segment_of, has_room_for_segment, lost_run, new_segment_on_board_within_rwnd, hole_run, rescue_run, next_send as next_seg, step_c_segment, limited_transmit_segment}
+use Rattle.pd_recover.specs.NextSeg.{segment_of, has_room_for_segment, lost_run, board_new_segment_at_top_if_whole_in_rwnd, hole_run, rescue_run, next_send as next_seg, step_c_segment, limited_transmit_segment}
 use Rattle.pd_recover.specs.Cong.{CongView}
 use Rattle.pd_recover.specs.declared.next_segment.NextSegment.{NextSegment}
 use Rattle.pd_recover.specs.declared.next_segment.NextSegment.TheVariants.{Lost, New, Hole, Rescue}
@@ -17,7 +17,8 @@ use Rattle.pd_recover.proofs.Chosen.{AllOf, one_of, either_of, map_of, allowed_o
 use Rattle.pd_recover.proofs.Found.{least}
 use Rattle.pd_seg.specs.declared.sack_spans.Span.{Span}
 use Rattle.pd_seg.specs.declared.segments.Sent.{Sent}
-use Rattle.pd_host.specs.AckEffects.{OnTheWay, octets_of, next_by, next_fill, sent_as, fill_noted_by, fill_noted_on, one_filled, pipe_of, filled}
+use Rattle.pd_seg.specs.declared.send_rule.SendRule.{SendRule}
+use Rattle.pd_host.specs.AckEffects.{fill_rule, OnTheWay, octets_of, next_by, next_fill, sent_as, fill_noted_by, fill_noted_on, one_filled, pipe_of, filled}
 use Rattle.pd_host.specs.Connection.{ConnectionView}
 use Rattle.pd_host.specs.Packets.{data_of}
 use Rattle.pd_host.specs.Sending.{value_on, places_left, with_segment}
@@ -47,7 +48,7 @@ run_short s x = by (least_where (contains s.sacked) x (most_from x s)) refl
 new_short : (top smss left : ℕ) → top + min smss left - top ≤ smss
 new_short top smss left = omega arith
 
-data_short : (rwnd : ℕ) (s : BoardView) → AllOf (IsShort s.smss) (new_segment_on_board_within_rwnd rwnd s)
+data_short : (rwnd : ℕ) (s : BoardView) → AllOf (IsShort s.smss) (board_new_segment_at_top_if_whole_in_rwnd rwnd s)
 data_short rwnd s =
     let to : ℕ = s.top + min s.smss (s.end - s.top) in
     let segment : Span = record { start = s.top; end = to } in
@@ -66,8 +67,8 @@ next_short : (rwnd : ℕ) (s : BoardView) (w : CongView) → AllOf (λ sent. IsS
 next_short rwnd s w =
     let P : NextSegment → Type 0 = λ sent. IsShort s.smss (segment_of sent) in
     either_of P (lost_run s w) _ (map_of P (λ x. Lost (run_at x s)) (next_lost w.high_rxt s) (λ x e. run_short s x))
-    (either_of P (option_map (λ segment. New segment) (new_segment_on_board_within_rwnd rwnd s)) _
-    (map_of P (λ segment. New segment) (new_segment_on_board_within_rwnd rwnd s) (data_short rwnd s))
+    (either_of P (option_map (λ segment. New segment) (board_new_segment_at_top_if_whole_in_rwnd rwnd s)) _
+    (map_of P (λ segment. New segment) (board_new_segment_at_top_if_whole_in_rwnd rwnd s) (data_short rwnd s))
     (either_of P (hole_run s w) (rescue_run s w)
     (map_of P (λ x. Hole (run_at x s)) (find_unsacked_octet_by_nextseg_rule_3 w.high_rxt s) (λ x e. run_short s x))
     (allowed_of P _ _ (λ _. map_of P (λ segment. Rescue segment) (rescue s) (rescue_short s)))))
@@ -90,7 +91,7 @@ c_room rwnd pipe s w =
 
 limited_room : (rwnd pipe : ℕ) (s : BoardView) (w : CongView) → AllOf (HasRoom w.cwnd pipe) (limited_transmit_segment rwnd pipe s w)
 limited_room rwnd pipe s w =
-    allowed_of (HasRoom w.cwnd pipe) (has_room_for_segment pipe s w) (new_segment_on_board_within_rwnd rwnd s)
+    allowed_of (HasRoom w.cwnd pipe) (has_room_for_segment pipe s w) (board_new_segment_at_top_if_whole_in_rwnd rwnd s)
     (λ t segment e. fits (octets_of segment) s.smss (w.cwnd - pipe) (data_short rwnd s segment e) (is_within s.smss (w.cwnd - pipe) t))
 
 filling_room : (filling : WindowFill) (n : ℕ) (c : ConnectionView) (e : Established)
@@ -170,12 +171,12 @@ same_window : (now : ℕ) (filling : WindowFill) (sent : NextSegment) (c : Conne
 same_window now filling sent c None is = ap (cwnd_on c) (sent_as_established now sent c ∙ is)
 same_window now filling sent c (Some e) is = noted_window filling sent e.congestion
 
-one_filling : (pipe cwnd now : ℕ) (s : SenderState) (t : OnTheWay) (segment : Span) (c d : ConnectionView) → t.0.endpoint.connection ≡ Some c
+one_filling : (pipe cwnd now : ℕ) (rule : SendRule) (s : SenderState) (t : OnTheWay) (segment : Span) (c d : ConnectionView) → t.0.endpoint.connection ≡ Some c
     → HasRoom (cwnd_in (Some c)) t.1 segment → cwnd_in (Some d) ≡ cwnd_in (Some c)
     → out_in (Some d) ≤ out_in (Some c) + octets_of segment → IsFilling pipe cwnd s t
-    → IsFilling pipe cwnd s (with_segment now segment c d t.0, t.1 + octets_of segment)
-one_filling pipe cwnd now s t segment c d e room stays grows h =
-    let packet : Sent = record { segment = data_of c segment; at = now } in
+    → IsFilling pipe cwnd s (with_segment now rule segment c d t.0, t.1 + octets_of segment)
+one_filling pipe cwnd now rule s t segment c d e room stays grows h =
+    let packet : Sent = record { segment = data_of c segment; at = now; rule = rule } in
     let here : cwnd_in (Some c) ≡ cwnd = sym (ap cwnd_in e) ∙ h.window in
     record {
       packets = h.packets ++ packet ∷ [];
@@ -193,7 +194,7 @@ fill_once : (filling : WindowFill) (pipe cwnd now : ℕ) (s : SenderState) (t : 
     → IsFilling pipe cwnd s (one_filled now filling sent o t)
 fill_once filling pipe cwnd now s t sent None e f h = h
 fill_once filling pipe cwnd now s t sent (Some c) e f h =
-    one_filling pipe cwnd now s t (segment_of sent) c (fill_noted_on filling sent (sent_as now sent c) c.established) e
+    one_filling pipe cwnd now (fill_rule filling sent) s t (segment_of sent) c (fill_noted_on filling sent (sent_as now sent c) c.established) e
     (room_on filling t.1 c c.established sent f) (same_window now filling sent c c.established refl)
     (more_out now filling sent c c.established refl) h
 

@@ -8,7 +8,7 @@ use Rattle.pd_recover.proofs.SlowStart.{restarts_when_idle}
 use Rattle.pd_recover.specs.Cong.{initial_window_by_rule}
 use Rattle.pd_host.specs.Connection.{ConnectionView}
 use Rattle.pd_host.specs.Packets.{data_of}
-use Rattle.pd_host.specs.Sending.{value_on, places_left, una_plus_smaller_window, is_idle, restarted_in, restarted_if_idle, with_next_past_sacked, sent_on, found, sent_ordinarily, ready, ordinary}
+use Rattle.pd_host.specs.Sending.{ordinary_rule, value_on, places_left, una_plus_smaller_window, is_all_acked_and_idle_over_rto, restarted_in, restarted_if_idle, with_next_past_sacked, sent_on, found, sent_ordinarily, ready, ordinary}
 use Rattle.pd_host.specs.SendingLaws.{end_with_fin, edge_of}
 use Rattle.pd_host.specs.declared.established.Established.{Established}
 use Rattle.pd_host.specs.declared.endpoint.SenderState.{SenderState}
@@ -50,7 +50,7 @@ one_below : (edge now : ℕ) (segment : Span) (s t : SenderState) (o : Option Co
     → EndsBelow edge s t → EndsBelow edge s (sent_ordinarily now segment o t)
 one_below edge now segment s t None e f h = h
 one_below edge now segment s t (Some c) e f h =
-    let packet : Sent = record { segment = data_of c segment; at = now } in
+    let packet : Sent = record { segment = data_of c segment; at = now; rule = ordinary_rule c } in
     let here : edge_of (Some c) ≡ edge = sym (ap edge_of e) ∙ h.stays in
     let below : segment.end ≤ edge = subst (λ (n : ℕ). segment.end ≤ n) here (found_below c c.established segment f) in
     record {
@@ -63,7 +63,7 @@ one_below edge now segment s t (Some c) e f h =
 -- the edge where sending begins, after an idle time or without one
 abbrev edge_again : ℕ → Option ConnectionView → ℕ
 edge_again now None = 0
-edge_again now (Some c) = edge_on c (restarted_in c.board.smss (is_idle now c) c.established)
+edge_again now (Some c) = edge_on c (restarted_in c.board.smss (is_all_acked_and_idle_over_rto now c) c.established)
 
 made_ready : (now : ℕ) (s : SenderState) (o : Option ConnectionView) → s.endpoint.connection ≡ o → EndsBelow (edge_again now o) s (ready now o s)
 made_ready now s None e = record { packets = []; ends = tt; outbox = sym (append-nil s.endpoint.outbox); stays = ap edge_of e }
@@ -71,7 +71,7 @@ made_ready now s (Some c) e = record {
   packets = [];
   ends = tt;
   outbox = sym (append-nil s.endpoint.outbox);
-  stays = same_edge c (with_next_past_sacked (restarted_if_idle now c)) (restarted_in c.board.smss (is_idle now c) c.established) refl;
+  stays = same_edge c (with_next_past_sacked (restarted_if_idle now c)) (restarted_in c.board.smss (is_all_acked_and_idle_over_rto now c) c.established) refl;
 }
 
 all_below : (now : ℕ) (s : SenderState) → Leaves (EndsBelow (edge_again now s.endpoint.connection) s) (ordinary now s)
@@ -92,7 +92,7 @@ no_farther_on smss idle c (Some e) = nearer c.board.una _ e.congestion.cwnd e.rw
 
 no_farther : (now : ℕ) (o : Option ConnectionView) → edge_again now o ≤ edge_of o
 no_farther now None = omega arith
-no_farther now (Some c) = no_farther_on c.board.smss (is_idle now c) c c.established
+no_farther now (Some c) = no_farther_on c.board.smss (is_all_acked_and_idle_over_rto now c) c c.established
 
 all_lower : (edge farther : ℕ) (packets : List Sent) → edge ≤ farther → AllByRecursion (λ p. end_with_fin p.segment ≤ edge) packets
     → AllByRecursion (λ p. end_with_fin p.segment ≤ farther) packets
@@ -124,11 +124,11 @@ near_on : (smss : ℕ) (rule : InitialWindow) (c : ConnectionView) (e : Establis
 near_on smss rule c e by = near_window c.board.una _ _ e.rwnd (restarts_when_idle.idle smss rule e.congestion by)
 
 pub restart_below : (now : ℕ) (s t : SenderState) (c : ConnectionView) (e : Established) (rule : InitialWindow) → s.endpoint.connection ≡ Some c
-    → c.established ≡ Some e → e.congestion.idle_restart_rule ≡ Some rule → is_idle now c ≡ true → ordinary now s ≡ Ok t
+    → c.established ≡ Some e → e.congestion.idle_restart_rule ≡ Some rule → is_all_acked_and_idle_over_rto now c ≡ true → ordinary now s ≡ Ok t
     → PutsOutBelow (c.board.una + min (initial_window_by_rule rule c.board.smss) e.congestion.cwnd) s t
 restart_below now s t c e rule is established by idle h =
     let edge : ℕ = c.board.una + min (initial_window_by_rule rule c.board.smss) e.congestion.cwnd in
-    let there : edge_on c (restarted_in c.board.smss (is_idle now c) c.established) ≤ edge =
-    subst (λ (o : Option Established). edge_on c (restarted_in c.board.smss (is_idle now c) o) ≤ edge) (sym established)
+    let there : edge_on c (restarted_in c.board.smss (is_all_acked_and_idle_over_rto now c) c.established) ≤ edge =
+    subst (λ (o : Option Established). edge_on c (restarted_in c.board.smss (is_all_acked_and_idle_over_rto now c) o) ≤ edge) (sym established)
     (subst (λ (b : Bool). edge_on c (restarted_in c.board.smss b (Some e)) ≤ edge) (sym idle) (near_on c.board.smss rule c e by)) in
     below_again now edge s t (subst (λ (o : Option ConnectionView). edge_again now o ≤ edge) (sym is) there) h

@@ -4,6 +4,8 @@ use Rattle.pd_seg.specs.declared.option_list.SegOption.{SegOption}
 use Rattle.pd_seg.specs.declared.option_list.SegOption.TheVariants.{Sack}
 use Rattle.pd_seg.specs.declared.sack_spans.Span.{Span}
 use Rattle.pd_seg.specs.declared.segments.Segment.{Segment}
+use Rattle.pd_seg.specs.declared.send_rule.SendRule.{SendRule}
+use Rattle.pd_seg.specs.declared.send_rule.SendRule.TheVariants.{NextSegLost, NextSegNew, NextSegHole, NextSegRescue, LimitedTransmit as LimitedBy3042, SackLimitedTransmit, FastRetransmit as FastBy5681, SackFastRetransmit}
 use Rattle.pd_board.specs.Retransmit.{run_at}
 use Rattle.pd_board.specs.Loss.{is_lost, pipe, sacked_octets, undelivered_octets, lost_edge}
 use Rattle.pd_board.specs.Board.{BoardView, acknowledged, with_sacked_block, has_new}
@@ -16,7 +18,7 @@ use Rattle.pd_recover.specs.declared.ack.SackNews.{SackNews}
 use Rattle.pd_recover.specs.declared.ack_action.AckAction.{AckAction}
 use Rattle.pd_recover.specs.declared.ack_action.AckAction.TheVariants.{Ordinary, StepC, Entry, LimitedTransmit, NewSegment, FastRetransmit, Nothing}
 use Rattle.pd_recover.specs.declared.next_segment.NextSegment.{NextSegment}
-use Rattle.pd_recover.specs.declared.next_segment.NextSegment.TheVariants.{New}
+use Rattle.pd_recover.specs.declared.next_segment.NextSegment.TheVariants.{Lost, New, Hole, Rescue}
 use Rattle.pd_host.specs.Connection.{ConnectionView}
 use Rattle.pd_host.specs.Handshake.{before_eol, scaled_window_in, with_window}
 use Rattle.pd_host.specs.OutboxLimit.{has_place}
@@ -201,11 +203,23 @@ abbrev pub fill_noted_on : WindowFill → NextSegment → ConnectionView → Opt
 fill_noted_on filling sent c None = c
 fill_noted_on filling sent c (Some e) = record c { established = Some (record e { congestion = fill_noted_by filling sent e.congestion }) }
 
+-- the rule of NextSeg that gave a segment (RFC 6675, section 4)
+abbrev pub next_seg_rule : NextSegment → SendRule
+next_seg_rule (Lost segment) = NextSegLost
+next_seg_rule (New segment) = NextSegNew
+next_seg_rule (Hole segment) = NextSegHole
+next_seg_rule (Rescue segment) = NextSegRescue
+
+-- the rule by which such a segment leaves
+abbrev pub fill_rule : WindowFill → NextSegment → SendRule
+fill_rule NextSeg sent = next_seg_rule sent
+fill_rule NewData sent = SackLimitedTransmit
+
 -- one such segment is put out at a moment, and its octets count as on the way (RFC 6675, section 5, steps 3 and C.4)
 abbrev pub one_filled : ℕ → WindowFill → NextSegment → Option ConnectionView → OnTheWay → OnTheWay
 one_filled now filling sent None t = t
 one_filled now filling sent (Some c) t = (
-  with_segment now (segment_of sent) c (fill_noted_on filling sent (sent_as now sent c) c.established) t.0,
+  with_segment now (fill_rule filling sent) (segment_of sent) c (fill_noted_on filling sent (sent_as now sent c) c.established) t.0,
   t.1 + octets_of (segment_of sent),
 )
 
@@ -228,10 +242,10 @@ filled_from now filling t =
 abbrev pub filled : ℕ → WindowFill → SenderState → Result SenderState Halt
 filled now filling s = sender_of (filled_from now filling (s, pipe_of s.endpoint.connection))
 
--- one segment is put out at a moment, where the outbox has a place for it
-abbrev pub push_data_segment_to_outbox : ℕ → Span → ConnectionView → ConnectionView → SenderState → Result SenderState Halt
-push_data_segment_to_outbox now segment before after s =
-    if has_place s.endpoint.outbox then Ok (with_segment now segment before after s) else Err Limit
+-- one segment is put out at a moment, by a rule, where the outbox has a place for it
+abbrev pub push_data_segment_to_outbox : ℕ → SendRule → Span → ConnectionView → ConnectionView → SenderState → Result SenderState Halt
+push_data_segment_to_outbox now rule segment before after s =
+    if has_place s.endpoint.outbox then Ok (with_segment now rule segment before after s) else Err Limit
 
 -- an entry into loss recovery has sent this segment again: HighRxt and RescueRxt are its end (RFC 6675, section 5, step 4.3),
 -- and by PRR its octets count as sent
@@ -245,7 +259,7 @@ abbrev pub entry : ℕ → ConnectionView → SenderState → Result SenderState
 entry now c s =
     let segment = run_at c.board.una c.board in
     if nat_lt segment.start segment.end
-    then push_data_segment_to_outbox now segment c (entered_on segment (timing_started now segment c) c.established) s
+    then push_data_segment_to_outbox now SackFastRetransmit segment c (entered_on segment (timing_started now segment c) c.established) s
     else Ok (with_begun_connection (entered_on segment c c.established) s)
 
 -- the sending that an ACK leads to, on the connection that it left: an entry is followed by step C (RFC 6675, section 5, step
@@ -255,8 +269,8 @@ after_ack_action now c s Ordinary = ordinary now s
 after_ack_action now c s StepC = filled now NextSeg s
 after_ack_action now c s Entry = then_on (filled now NextSeg) (entry now c s)
 after_ack_action now c s LimitedTransmit = filled now NewData s
-after_ack_action now c s (NewSegment segment) = push_data_segment_to_outbox now segment c (sent_on now segment c) s
-after_ack_action now c s (FastRetransmit segment) = then_on (ordinary now) (push_data_segment_to_outbox now segment c (timing_started now segment c) s)
+after_ack_action now c s (NewSegment segment) = push_data_segment_to_outbox now LimitedBy3042 segment c (sent_on now segment c) s
+after_ack_action now c s (FastRetransmit segment) = then_on (ordinary now) (push_data_segment_to_outbox now FastBy5681 segment c (timing_started now segment c) s)
 after_ack_action now c s Nothing = Ok s
 
 -- a segment that passed all checks is taken, and what follows is sent; its FIN comes after that

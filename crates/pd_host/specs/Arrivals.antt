@@ -1,6 +1,7 @@
 -- A segment that arrives: its checks in their order, and what each ruling does.
 use Rattle.std.specs.Prelude.{ℕ, ◌+◌, ◌==◌, nat_lt, nat_le, not, Bool, true, false, ◌&&◌, ◌||◌, List, [], ◌∷◌, Option, Some, None, is_some, option_map, Result, Ok, Err, if◌then◌else◌}
 use Rattle.pd_seg.specs.declared.segments.Segment.{Segment}
+use Rattle.pd_seg.specs.declared.send_rule.SendRule.TheVariants.{Ack, Rst}
 use Rattle.pd_host.specs.declared.halts.Halt.{Halt}
 use Rattle.pd_host.specs.declared.halts.Halt.TheVariants.{Unsupported}
 use Rattle.pd_host.specs.declared.connection.segment_check.SegmentCheck.{SegmentCheck}
@@ -28,17 +29,17 @@ is_awaited Awaited = true
 is_awaited _ = false
 
 -- the peer's FIN is the next octet: it is the first, and nothing is missing before it
-abbrev pub is_next_fin : ConnectionView → Segment → Bool
-is_next_fin c segment = is_awaited (peer_fin_in c.established) && segment.start == rcv_nxt c
+abbrev pub is_first_fin_at_rcv_nxt : ConnectionView → Segment → Bool
+is_first_fin_at_rcv_nxt c segment = is_awaited (peer_fin_in c.established) && segment.start == rcv_nxt c
 
 -- another FIN in the receive window
 abbrev pub has_in_window_fin_out_of_order : ConnectionView → Segment → Bool
-has_in_window_fin_out_of_order c segment = segment.flags.fin && (is_in_window c segment && not (is_next_fin c segment))
+has_in_window_fin_out_of_order c segment = segment.flags.fin && (is_in_window c segment && not (is_first_fin_at_rcv_nxt c segment))
 
 -- the contents: data, a SYN, a FIN in the receive window that isn't the next octet, and whatever comes to a closed
 -- connection isn't run (own profile)
-abbrev pub failed_check_if_contents_unsupported : ConnectionView → Segment → Option SegmentCheck
-failed_check_if_contents_unsupported c segment =
+abbrev pub not_run_if_data_syn_misplaced_fin_or_closed : ConnectionView → Segment → Option SegmentCheck
+not_run_if_data_syn_misplaced_fin_or_closed c segment =
     if nat_lt 0 (length_of segment) || (segment.flags.syn || (has_in_window_fin_out_of_order c segment || is_closed (state_of c)))
     then Some NotRun
     else None
@@ -68,8 +69,8 @@ first_or_refused_ack_check_in_handshake c segment =
 
 -- the ack number: an ACK of what wasn't sent is answered by an ACK and dropped; of one below SND.UNA the FIN alone is looked
 -- at (RFC 9293, section 3.10.7.4, fifth check, ESTABLISHED)
-abbrev pub failed_check_if_ack_early_or_old : ConnectionView → Segment → Option SegmentCheck
-failed_check_if_ack_early_or_old c segment =
+abbrev pub failed_check_if_ack_above_top_or_below_una : ConnectionView → Segment → Option SegmentCheck
+failed_check_if_ack_above_top_or_below_una c segment =
     if nat_lt c.board.top segment.ack then Some EarlyAck
     else if nat_lt segment.ack c.board.una then Some OldAck
     else None
@@ -83,8 +84,8 @@ first_failed_check (None ∷ checks) = first_failed_check checks
 -- the ruling on a later segment; one that passes all checks has none
 abbrev pub failed_check_of : ConnectionView → Segment → Option SegmentCheck
 failed_check_of c segment = first_failed_check (
-    failed_check_if_contents_unsupported c segment ∷ failed_check_if_outside_receive_window c segment ∷ exact_or_challenged_check_if_rst c segment
-    ∷ failed_check_if_ack_flag_missing segment ∷ first_or_refused_ack_check_in_handshake c segment ∷ failed_check_if_ack_early_or_old c segment ∷ [])
+    not_run_if_data_syn_misplaced_fin_or_closed c segment ∷ failed_check_if_outside_receive_window c segment ∷ exact_or_challenged_check_if_rst c segment
+    ∷ failed_check_if_ack_flag_missing segment ∷ first_or_refused_ack_check_in_handshake c segment ∷ failed_check_if_ack_above_top_or_below_una c segment ∷ [])
 
 -- the same on the connection of a sender, if one was begun
 abbrev pub failed_check_on : Segment → Option ConnectionView → Option SegmentCheck
@@ -107,16 +108,16 @@ with_connection c e = record e { connection = Some c }
 abbrev pub check_outcome : ℕ → Segment → ConnectionView → SenderState → Option SegmentCheck → Result SenderState Halt
 check_outcome now segment c s (Some NotRun) = Err Unsupported
 check_outcome now segment c s (Some StrayRst) = Ok s
-check_outcome now segment c s (Some OutsideWindow) = beside s (put_out now (ack_of c) s.endpoint)
+check_outcome now segment c s (Some OutsideWindow) = beside s (put_out now Ack (ack_of c) s.endpoint)
 check_outcome now segment c s (Some ExactRst) = beside s (Ok (with_connection (reset_of c) s.endpoint))
-check_outcome now segment c s (Some ChallengedRst) = beside s (put_out now (ack_of c) s.endpoint)
+check_outcome now segment c s (Some ChallengedRst) = beside s (put_out now Ack (ack_of c) s.endpoint)
 check_outcome now segment c s (Some WithoutAck) = Ok s
 check_outcome now segment c s (Some FirstAck) = Ok (record s {
   consulted_settings = establishment_settings s.consulted_settings;
   endpoint = with_connection (established_by now s.settings segment c) s.endpoint;
 })
-check_outcome now segment c s (Some RefusedAck) = beside s (put_out now (refusal_of segment.ack) s.endpoint)
-check_outcome now segment c s (Some EarlyAck) = beside s (put_out now (ack_of c) s.endpoint)
+check_outcome now segment c s (Some RefusedAck) = beside s (put_out now Rst (refusal_of segment.ack) s.endpoint)
+check_outcome now segment c s (Some EarlyAck) = beside s (put_out now Ack (ack_of c) s.endpoint)
 check_outcome now segment c s (Some OldAck) = Ok s
 check_outcome now segment c s None = ack_taken now segment c s c.established
 
@@ -140,7 +141,7 @@ with_peer_fin c = record c {
 -- it is taken and answered by an ACK at a moment
 abbrev pub finished_on : ℕ → SenderState → Option ConnectionView → Result SenderState Halt
 finished_on now s None = Ok s
-finished_on now s (Some c) = beside s (put_out now (ack_of (with_peer_fin c)) (with_connection (with_peer_fin c) s.endpoint))
+finished_on now s (Some c) = beside s (put_out now Ack (ack_of (with_peer_fin c)) (with_connection (with_peer_fin c) s.endpoint))
 
 -- so it is where the segment has one and goes on to it, after what its ACK led to was sent
 abbrev pub finished_by : ℕ → Segment → Option SegmentCheck → SenderState → Result SenderState Halt

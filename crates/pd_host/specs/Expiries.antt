@@ -2,6 +2,8 @@
 use Rattle.std.specs.Prelude.{ℕ, nat_le, true, Option, Some, None, Result, if◌then◌else◌, option_and_then}
 use Rattle.pd_seg.specs.declared.sack_spans.Span.{Span}
 use Rattle.pd_seg.specs.declared.segments.Segment.{Segment}
+use Rattle.pd_seg.specs.declared.send_rule.SendRule.{SendRule}
+use Rattle.pd_seg.specs.declared.send_rule.SendRule.TheVariants.{SynAckAgain, Expiry}
 use Rattle.pd_board.specs.Retransmit.{run_at}
 use Rattle.pd_board.specs.Board.{sent_to, with_none_sacked}
 use Rattle.pd_recover.specs.Cong.{timed_out}
@@ -55,6 +57,11 @@ abbrev pub segment_again : ConnectionView → Option Established → Segment
 segment_again c None = syn_ack_of c
 segment_again c (Some e) = data_of c (first_again c)
 
+-- the rule by which it sends that
+abbrev pub expiry_rule : Option Established → SendRule
+expiry_rule None = SynAckAgain
+expiry_rule (Some e) = Expiry
+
 -- the connection after an expiry at a moment
 abbrev pub connection_expired : ℕ → ConnectionView → Option Established → ConnectionView
 connection_expired at c None = resent_by at c
@@ -62,7 +69,7 @@ connection_expired at c (Some e) = expired_by at e c
 
 -- an expiry on a connection
 abbrev pub expired_on : ℕ → ConnectionView → Option Established → SenderState → SenderState
-expired_on at c e s = with_packet_sent at (segment_again c e) (with_begun_connection (connection_expired at c e) s)
+expired_on at c e s = with_packet_sent at (expiry_rule e) (segment_again c e) (with_begun_connection (connection_expired at c e) s)
 
 -- an expiry at a moment
 abbrev pub expired : ℕ → Option ConnectionView → SenderState → SenderState

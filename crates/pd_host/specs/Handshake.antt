@@ -7,6 +7,7 @@ use Rattle.pd_seg.specs.declared.flags.Flags.{Flags}
 use Rattle.pd_seg.specs.declared.option_list.SegOption.{SegOption}
 use Rattle.pd_seg.specs.declared.option_list.SegOption.TheVariants.{Mss, Wscale, SackOk, Eol}
 use Rattle.pd_seg.specs.declared.segments.Segment.{Segment}
+use Rattle.pd_seg.specs.declared.send_rule.SendRule.TheVariants.{SynAck}
 use Rattle.pd_host.specs.declared.established.Established.{Established}
 use Rattle.pd_host.specs.declared.halts.Halt.{Halt}
 use Rattle.pd_host.specs.declared.halts.Halt.TheVariants.{Unsupported}
@@ -83,8 +84,8 @@ is_listening _ = false
 
 -- the first segment begins the connection where 3 listens and it is exactly a SYN at 0 without data (RFC 9293, section
 -- 3.10.7.2); nothing else is run (own profile)
-abbrev pub is_supported_syn_for_listener : ListenState → Segment → Bool
-is_supported_syn_for_listener listener segment =
+abbrev pub is_supported_syn_while_listening : ListenState → Segment → Bool
+is_supported_syn_while_listening listener segment =
     is_listening listener
     && (is_syn_alone segment.flags && (segment.start == 0 && (length_of segment == 0 && is_peer_mss_supported (offered_mss segment.options))))
 
@@ -97,8 +98,8 @@ abbrev pub is_sack_agreed : Settings → SynOptions → Bool
 is_sack_agreed settings syn_options = settings.sack && syn_options.sack
 
 -- scaling is agreed where the peer offers it; its count above 14 is taken as 14 (RFC 7323, section 2.3)
-abbrev pub agreed_window_scaling_if_offered : Settings → SynOptions → Option Scaling
-agreed_window_scaling_if_offered settings syn_options = option_map (λ count. record { own = settings.wscale; peer = min count 14 }) syn_options.count
+abbrev pub own_and_peer_shifts_if_peer_offers : Settings → SynOptions → Option Scaling
+own_and_peer_shifts_if_peer_offers settings syn_options = option_map (λ count. record { own = settings.wscale; peer = min count 14 }) syn_options.count
 
 -- the octet of our SYN
 abbrev pub syn_octet : Span
@@ -110,7 +111,7 @@ abbrev pub connection_begun : ℕ → Settings → Segment → ConnectionView
 connection_begun now settings syn = record {
   own_mss = settings.mss;
   sack = is_sack_agreed settings (syn_options_of syn.options);
-  scaling = agreed_window_scaling_if_offered settings (syn_options_of syn.options);
+  scaling = own_and_peer_shifts_if_peer_offers settings (syn_options_of syn.options);
   rcv_wnd = settings.rcv_wnd;
   board = opened (smss_of settings (syn_options_of syn.options));
   fin = false;
@@ -130,12 +131,12 @@ syn_settings consulted_settings = record consulted_settings { mss = true; sack =
 -- the connection begins, and the SYN/ACK is put out
 abbrev pub answered_syn : ℕ → ConnectionView → SenderState → Result SenderState Halt
 answered_syn now c s =
-    beside (record s { consulted_settings = syn_settings s.consulted_settings }) (put_out now (syn_ack_of c) (record s.endpoint { connection = Some c }))
+    beside (record s { consulted_settings = syn_settings s.consulted_settings }) (put_out now SynAck (syn_ack_of c) (record s.endpoint { connection = Some c }))
 
 -- the first segment begins the connection, or isn't run
 abbrev pub opened_by : ℕ → Segment → SenderState → Result SenderState Halt
 opened_by now segment s =
-    if is_supported_syn_for_listener s.endpoint.listener segment
+    if is_supported_syn_while_listening s.endpoint.listener segment
     then answered_syn now (connection_begun now s.settings segment) s
     else Err Unsupported
 

@@ -4,6 +4,7 @@ use Rattle.pd_settings.specs.SettingSets.{no_settings}
 use Rattle.pd_settings.specs.declared.settings.Settings.{Settings}
 use Rattle.pd_seg.specs.declared.segments.Segment.{Segment}
 use Rattle.pd_seg.specs.declared.segments.Sent.{Sent}
+use Rattle.pd_seg.specs.declared.send_rule.SendRule.{SendRule}
 use Rattle.pd_host.specs.Connection.{ConnectionView}
 use Rattle.pd_host.specs.OutboxLimit.{has_place}
 use Rattle.pd_host.specs.declared.endpoint.Endpoint.{Endpoint}
@@ -49,19 +50,19 @@ abbrev pub then_on : {A B : Type 0} → (A → Result B Halt) → Result A Halt 
 then_on next (Ok s) = next s
 then_on next (Err halt) = Err halt
 
--- the packets that nobody has taken, with one more, where there is a place for it
-abbrev pub with_packet : ℕ → Segment → List Sent → Result (List Sent) Halt
-with_packet now segment packets =
-    if has_place packets then Ok (packets ++ record { segment = segment; at = now } ∷ []) else Err Limit
+-- the packets that nobody has taken, with one more by a rule, where there is a place for it
+abbrev pub with_packet : ℕ → SendRule → Segment → List Sent → Result (List Sent) Halt
+with_packet now rule segment packets =
+    if has_place packets then Ok (packets ++ record { segment = segment; at = now; rule = rule } ∷ []) else Err Limit
 
 -- the result of the outbox for the whole endpoint
 abbrev pub with_outbox : Endpoint → Result (List Sent) Halt → Result Endpoint Halt
 with_outbox e (Ok packets) = Ok (record e { outbox = packets })
 with_outbox e (Err halt) = Err halt
 
--- a segment is put out at a moment
-abbrev pub put_out : ℕ → Segment → Endpoint → Result Endpoint Halt
-put_out now segment e = with_outbox e (with_packet now segment e.outbox)
+-- a segment is put out at a moment, by a rule
+abbrev pub put_out : ℕ → SendRule → Segment → Endpoint → Result Endpoint Halt
+put_out now rule segment e = with_outbox e (with_packet now rule segment e.outbox)
 
 -- the sender without the oldest packet that nobody has taken
 abbrev pub without_oldest : HostView → HostView

@@ -38,8 +38,8 @@ loss_evidence_of c w = record {
 
 -- a duplicate is looked at where octets are outstanding and no recovery goes on, unless an RST has ended the connection; below
 -- RecoveryPoint none begins recovery (RFC 6675, sections 5 and 5.1)
-abbrev pub established_next_dup_ack_effect : ConnectionView → Established → Option DupAckEffect
-established_next_dup_ack_effect c e =
+abbrev pub established_loss_evidence_or_barring_point : ConnectionView → Established → Option DupAckEffect
+established_loss_evidence_or_barring_point c e =
     if c.is_reset || (e.congestion.recovering || c.board.una == c.board.top) then None
     else (if nat_lt c.board.una e.congestion.recovery_point then Some (Below e.congestion.recovery_point)
     else Some (Counted (loss_evidence_of c e.congestion)))
@@ -49,7 +49,7 @@ dup_ack_status_of c = by c.established
   where
     by : Option Established → Option DupAckEffect
     by None = None
-    by (Some e) = established_next_dup_ack_effect c e
+    by (Some e) = established_loss_evidence_or_barring_point c e
 
 -- the effect of a duplicate at the sender
 abbrev pub dup_ack_status_in : SenderState → Option DupAckEffect

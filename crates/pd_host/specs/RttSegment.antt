@@ -12,16 +12,16 @@ overlaps a b = nat_lt a.start b.end && nat_lt b.start a.end
 -- the segment that is timed after another one was sent at a moment, top being where it was before: a segment of new octets
 -- is timed while none is, and one that overlaps the timed segment gives the timing up (RFC 6298, section 3: Karn's
 -- algorithm)
-abbrev pub rtt_segment_after_sending : ℕ → Span → ℕ → Option RttSegment → Option RttSegment
-rtt_segment_after_sending now segment top None = if nat_le top segment.start then Some (record { segment = segment; sent_at = now }) else None
-rtt_segment_after_sending now segment top (Some t) = if overlaps t.segment segment then None else Some t
+abbrev pub rtt_segment_by_karn_after_sending : ℕ → Span → ℕ → Option RttSegment → Option RttSegment
+rtt_segment_by_karn_after_sending now segment top None = if nat_le top segment.start then Some (record { segment = segment; sent_at = now }) else None
+rtt_segment_by_karn_after_sending now segment top (Some t) = if overlaps t.segment segment then None else Some t
 
 -- a segment was sent at a moment, which is noted (RFC 5681, section 4.1): the timer runs from now on, if it didn't (RFC 6298,
 -- section 5.1)
 abbrev pub timing_started : ℕ → Span → ConnectionView → ConnectionView
 timing_started now segment c = record c {
   timer = started now c.timer;
-  rtt_segment = rtt_segment_after_sending now segment c.board.top c.rtt_segment;
+  rtt_segment = rtt_segment_by_karn_after_sending now segment c.board.top c.rtt_segment;
   last_sent = now;
 }
 

@@ -16,13 +16,13 @@ abbrev pub last_octet_needed_in_windows : ConnectionView → ℕ
 last_octet_needed_in_windows c = if nat_lt c.board.next c.board.top then (run_at c.board.next c.board).end - 1 else c.board.next
 
 -- a segment that could leave is worth sending, Nagle's algorithm apart (RFC 9293, section 3.8.6.2.1)
-abbrev pub is_worth_sending : ConnectionView → Established → Bool
-is_worth_sending c e = can_send_full_segment c e || (is_unsent_within_usable_window c e || can_send_half_max_window c e)
+abbrev pub may_leave_by_sws_ignoring_nagle : ConnectionView → Established → Bool
+may_leave_by_sws_ignoring_nagle c e = can_send_full_segment c e || (is_unsent_within_usable_window c e || can_send_half_max_window c e)
 
 -- new octets that lie within both windows
 abbrev pub new_segment_send_blocker : ConnectionView → Established → SendBlocker
 new_segment_send_blocker c e =
-    if not (is_worth_sending c e) then PartOfSegment
+    if not (may_leave_by_sws_ignoring_nagle c e) then PartOfSegment
     else (if may_leave_by_sws_and_nagle c e then Open else Nagle)
 
 -- outside recovery, and in recovery without SACK

@@ -2,6 +2,8 @@
 use Rattle.std.specs.Prelude.{ℕ, ◌+◌, ◌-◌, ◌*◌, ◌==◌, nat_lt, nat_le, min, zero, suc, not, Bool, false, ◌&&◌, ◌||◌, [], ◌∷◌, ◌++◌, length, Option, Some, None, is_some, Result, Ok, Err, if◌then◌else◌}
 use Rattle.pd_seg.specs.declared.sack_spans.Span.{Span}
 use Rattle.pd_seg.specs.declared.segments.Segment.{Segment}
+use Rattle.pd_seg.specs.declared.send_rule.SendRule.{SendRule}
+use Rattle.pd_seg.specs.declared.send_rule.SendRule.TheVariants.{NewData, AfterExpiry}
 use Rattle.pd_board.specs.Retransmit.{run_at}
 use Rattle.pd_board.specs.Board.{sent_to, past_sacked_octets}
 use Rattle.pd_recover.specs.Cong.{restarted}
@@ -32,10 +34,10 @@ value_in before value (Some c) = value_on before value c c.established
 abbrev pub places_left : SenderState → ℕ
 places_left s = most_packets - length s.endpoint.outbox
 
--- a segment is put out at a moment, where the outbox has a place
-abbrev pub with_packet_sent : ℕ → Segment → SenderState → SenderState
-with_packet_sent now segment s = record s {
-  endpoint = record s.endpoint { outbox = s.endpoint.outbox ++ record { segment = segment; at = now } ∷ [] };
+-- a segment is put out at a moment, by a rule, where the outbox has a place
+abbrev pub with_packet_sent : ℕ → SendRule → Segment → SenderState → SenderState
+with_packet_sent now rule segment s = record s {
+  endpoint = record s.endpoint { outbox = s.endpoint.outbox ++ record { segment = segment; at = now; rule = rule } ∷ [] };
 }
 
 -- the state with this connection
@@ -88,12 +90,12 @@ can_send_half_max_window c e = nat_le c.max_window (2 * unsent_octets_in_usable_
 
 -- Nagle's algorithm holds a segment that isn't full while octets are outstanding (RFC 9293, section 3.7.4), but not our FIN
 -- (own profile)
-abbrev pub is_nagle_delayed : ConnectionView → Established → Bool
-is_nagle_delayed c e = e.nagle && (nat_lt c.board.una c.board.top && not (covers_fin c (unsent_segment c e)))
+abbrev pub is_partial_held_by_nagle_unless_fin : ConnectionView → Established → Bool
+is_partial_held_by_nagle_unless_fin c e = e.nagle && (nat_lt c.board.una c.board.top && not (covers_fin c (unsent_segment c e)))
 
 -- a segment of new octets leaves
 abbrev pub may_leave_by_sws_and_nagle : ConnectionView → Established → Bool
-may_leave_by_sws_and_nagle c e = can_send_full_segment c e || ((is_unsent_within_usable_window c e || can_send_half_max_window c e) && not (is_nagle_delayed c e))
+may_leave_by_sws_and_nagle c e = can_send_full_segment c e || ((is_unsent_within_usable_window c e || can_send_half_max_window c e) && not (is_partial_held_by_nagle_unless_fin c e))
 
 -- new octets: the next segment, where one leaves
 abbrev pub next_new_segment : ConnectionView → Established → Option Span
@@ -119,22 +121,26 @@ with_next_past_sacked c = record c { board = past_sacked_octets c.board }
 abbrev pub sent_on : ℕ → Span → ConnectionView → ConnectionView
 sent_on now segment c = record (timing_started now segment c) { board = sent_to segment.end c.board }
 
--- a segment is put out at a moment, and leaves this connection
-abbrev pub with_segment : ℕ → Span → ConnectionView → ConnectionView → SenderState → SenderState
-with_segment now segment before after s = with_packet_sent now (data_of before segment) (with_begun_connection after s)
+-- a segment is put out at a moment, by a rule, and leaves this connection
+abbrev pub with_segment : ℕ → SendRule → Span → ConnectionView → ConnectionView → SenderState → SenderState
+with_segment now rule segment before after s = with_packet_sent now rule (data_of before segment) (with_begun_connection after s)
 
 -- the segment that ordinary sending sends next; none before the end of the handshake
 abbrev pub found : Option ConnectionView → Option Span
 found connection = value_in None ordinary_segment connection
 
+-- octets that were sent before leave again after an expiry, others leave as new ones
+abbrev pub ordinary_rule : ConnectionView → SendRule
+ordinary_rule c = if nat_lt c.board.next c.board.top then AfterExpiry else NewData
+
 -- that segment is put out at a moment, and the sending place moves after it and past SACKed octets
 abbrev pub sent_ordinarily : ℕ → Span → Option ConnectionView → SenderState → SenderState
 sent_ordinarily now segment None s = s
-sent_ordinarily now segment (Some c) s = with_segment now segment c (with_next_past_sacked (sent_on now segment c)) s
+sent_ordinarily now segment (Some c) s = with_segment now (ordinary_rule c) segment c (with_next_past_sacked (sent_on now segment c)) s
 
 -- no octets were sent for longer than RTO (RFC 5681, section 4.1), and none are outstanding (own)
-abbrev pub is_idle : ℕ → ConnectionView → Bool
-is_idle now c = c.board.una == c.board.top && nat_lt c.timer.rto (now - c.last_sent)
+abbrev pub is_all_acked_and_idle_over_rto : ℕ → ConnectionView → Bool
+is_all_acked_and_idle_over_rto now c = c.board.una == c.board.top && nat_lt c.timer.rto (now - c.last_sent)
 
 -- congestion control where sending begins, after an idle time or without one
 abbrev pub restarted_in : ℕ → Bool → Option Established → Option Established
@@ -143,7 +149,7 @@ restarted_in smss idle (Some e) = Some (record e { congestion = restarted smss i
 
 -- sending begins at a moment: after an idle time the window restarts, where the setting was on (RFC 5681, section 4.1)
 abbrev pub restarted_if_idle : ℕ → ConnectionView → ConnectionView
-restarted_if_idle now c = record c { established = restarted_in c.board.smss (is_idle now c) c.established }
+restarted_if_idle now c = record c { established = restarted_in c.board.smss (is_all_acked_and_idle_over_rto now c) c.established }
 
 -- before anything is sent at a moment, the sending place moves past SACKed octets too (RFC 2018, section 5)
 abbrev pub ready : ℕ → Option ConnectionView → SenderState → SenderState

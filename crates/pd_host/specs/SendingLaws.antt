@@ -25,7 +25,7 @@ use Rattle.pd_host.specs.Connection.{ConnectionView, data_end}
 use Rattle.pd_host.specs.Expiries.{deadline_of, due_by, connection_expired, expired_by, expired, advanced}
 use Rattle.pd_host.specs.Packets.{data_of}
 use Rattle.pd_host.specs.Syscalls.{syscall_of}
-use Rattle.pd_host.specs.Sending.{value_in, with_begun_connection, una_plus_smaller_window, ordinary_segment, found, sent_ordinarily, is_idle, ordinary, is_recovering}
+use Rattle.pd_host.specs.Sending.{value_in, with_begun_connection, una_plus_smaller_window, ordinary_segment, found, sent_ordinarily, is_all_acked_and_idle_over_rto, ordinary, is_recovering}
 use Rattle.pd_host.specs.RttSegment.{overlaps, timing_started}
 use Rattle.pd_host.specs.declared.established.Established.{Established}
 use Rattle.pd_host.specs.declared.connection.ack_effects.WindowFill.{WindowFill}
@@ -102,7 +102,7 @@ pub record ControlsCongestion : Type 0 where
       → ordinary_segment c e ≡ Some segment → segment.end ≤ c.board.una + e.congestion.cwnd
   pub restart :
       (now : ℕ) (s t : SenderState) (c : ConnectionView) (e : Established) (rule : InitialWindow) → s.endpoint.connection ≡ Some c
-      → c.established ≡ Some e → e.congestion.idle_restart_rule ≡ Some rule → is_idle now c ≡ true → ordinary now s ≡ Ok t
+      → c.established ≡ Some e → e.congestion.idle_restart_rule ≡ Some rule → is_all_acked_and_idle_over_rto now c ≡ true → ordinary now s ≡ Ok t
       → (packets : List Sent)
       × AllByRecursion (λ p. end_with_fin p.segment ≤ c.board.una + min (initial_window_by_rule rule c.board.smss) e.congestion.cwnd) packets
       × (t.endpoint.outbox ≡ s.endpoint.outbox ++ packets)

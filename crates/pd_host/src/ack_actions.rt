@@ -9,6 +9,7 @@ use crate::halts::HostEnd;
 use crate::outbox::Outbox;
 use crate::send::{push_data_segment_to_outbox, send_all_windows_and_nagle_permit};
 use pd_recover::AckAction;
+use pd_seg::SendRule;
 
 /// Sends at a moment what an ACK led to.
 ///
@@ -27,30 +28,37 @@ pub fn send_segments_by_ack_action(
 {
     match next {
         AckAction::Ordinary => send_all_windows_and_nagle_permit(connection, outbox, now),
-        AckAction::StepC => send_while_cwnd_exceeds_pipe(
+        AckAction::StepC => send_nextseg_or_new_while_cwnd_exceeds_pipe(
             connection,
             outbox,
             WindowFill::NextSeg,
             now,
         ),
         AckAction::Entry => {
-            retransmit_una_and_note_recovery_entry(connection, outbox, now)?;
-            send_while_cwnd_exceeds_pipe(connection, outbox, WindowFill::NextSeg, now)
+            retransmit_una_unless_sacked_and_set_high_rxt(connection, outbox, now)?;
+            send_nextseg_or_new_while_cwnd_exceeds_pipe(
+                connection,
+                outbox,
+                WindowFill::NextSeg,
+                now,
+            )
         }
-        AckAction::LimitedTransmit => send_while_cwnd_exceeds_pipe(
+        AckAction::LimitedTransmit => send_nextseg_or_new_while_cwnd_exceeds_pipe(
             connection,
             outbox,
             WindowFill::NewData,
             now,
         ),
         AckAction::NewSegment(segment) => {
-            push_data_segment_to_outbox(connection, outbox, segment, now)?;
+            let rule = SendRule::LimitedTransmit;
+            push_data_segment_to_outbox(connection, outbox, segment, now, rule)?;
             connection.note_segment_sent(segment, now)?;
             Ok(())
         }
         AckAction::FastRetransmit(segment) => {
-            push_data_segment_to_outbox(connection, outbox, segment, now)?;
-            connection.start_rtt_and_timer(segment, now);
+            let rule = SendRule::FastRetransmit;
+            push_data_segment_to_outbox(connection, outbox, segment, now, rule)?;
+            connection.update_rtt_segment_timer_and_last_sent(segment, now);
             send_all_windows_and_nagle_permit(connection, outbox, now)
         }
         AckAction::Nothing => Ok(()),
@@ -58,7 +66,7 @@ pub fn send_segments_by_ack_action(
 }
 
 /// The segment at `una` is sent again, unless its first octet is SACKed.
-fn retransmit_una_and_note_recovery_entry(
+fn retransmit_una_unless_sacked_and_set_high_rxt(
     connection: &mut Connection,
     outbox: &mut Outbox,
     now: u64,
@@ -68,15 +76,16 @@ fn retransmit_una_and_note_recovery_entry(
 {
     let segment = connection.first_recovery_segment();
     if segment.start < segment.end {
-        push_data_segment_to_outbox(connection, outbox, segment, now)?;
-        connection.start_rtt_and_timer(segment, now);
+        let rule = SendRule::SackFastRetransmit;
+        push_data_segment_to_outbox(connection, outbox, segment, now, rule)?;
+        connection.update_rtt_segment_timer_and_last_sent(segment, now);
     }
-    connection.set_high_and_rescue_rxt_to_segment_end(segment);
+    connection.set_high_and_rescue_rxt_and_count_prr_out(segment);
     Ok(())
 }
 
 /// Segments are sent while the congestion window has room for them (RFC 6675, section 5).
-fn send_while_cwnd_exceeds_pipe(
+fn send_nextseg_or_new_while_cwnd_exceeds_pipe(
     connection: &mut Connection,
     outbox: &mut Outbox,
     filling: WindowFill,
@@ -88,8 +97,8 @@ fn send_while_cwnd_exceeds_pipe(
     let mut pipe = connection.pipe();
     while let Some(sent) = connection.find_nextseg_or_limited_transmit_segment(filling, pipe) {
         let segment = sent.segment();
-        push_data_segment_to_outbox(connection, outbox, segment, now)?;
-        connection.note_fill_sent_in_board_and_congestion(filling, &sent, now)?;
+        push_data_segment_to_outbox(connection, outbox, segment, now, filling.rule(&sent))?;
+        connection.note_fill_sent_in_board_timer_and_congestion(filling, &sent, now)?;
         pipe += segment.end - segment.start;
     }
     Ok(())

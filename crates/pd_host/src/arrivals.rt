@@ -1,11 +1,12 @@
 //! A segment that arrives.
 ghost use Rattle.std.specs.Prelude.{◌≡◌, ◌≤◌, ◌<◌, ◌^◌, None};
 ghost use Rattle.pd_host.specs.Arrivals.{finished_by, passed_on, arrived};
-ghost use Rattle.pd_host.specs.Handshake.{is_syn_alone, is_supported_syn_for_listener, opened_by};
+ghost use Rattle.pd_host.specs.Handshake.{is_syn_alone, is_supported_syn_while_listening, opened_by};
 ghost use Rattle.pd_host.specs.Host.{with_packet};
 ghost use Rattle.pd_host.specs.InputResults.{Gives};
 ghost use Rattle.pd_host.specs.Packets.{ack_of, refusal_of};
 ghost use Rattle.pd_host.specs.Steps.{GivesOn};
+ghost use Rattle.pd_seg.specs.declared.send_rule.SendRule.TheVariants.{Ack, Rst};
 
 use crate::ack_actions::send_segments_by_ack_action;
 use crate::connection::segment_check::SegmentCheck;
@@ -16,7 +17,7 @@ use crate::endpoint::SenderState;
 use crate::halts::{Halt, HostEnd};
 use crate::outbox::Outbox;
 use crate::syn_options::{SynOptions, is_peer_mss_supported};
-use pd_seg::{Flags, Segment};
+use pd_seg::{Flags, Segment, SendRule};
 
 /// The halt at a segment that isn't run.
 const NOT_RUN: HostEnd = HostEnd::Halted(Halt::Unsupported);
@@ -68,7 +69,7 @@ impl SenderState {
         requires early { now < 2 ^ 62 }
         ensures { Gives (opened_by now segment.now self.old) result self.new }
     {
-        if !is_supported_syn_for_listener(self.endpoint.listener, segment) {
+        if !is_supported_syn_while_listening(self.endpoint.listener, segment) {
             return Err(NOT_RUN);
         }
         let alloc = self.endpoint.outbox.allocator();
@@ -76,7 +77,7 @@ impl SenderState {
         let syn_ack = connection.syn_ack(alloc)?;
         self.consulted_settings = with_syn_settings(self.consulted_settings);
         self.endpoint.connection = Some(connection);
-        self.endpoint.outbox.push(syn_ack, now)
+        self.endpoint.outbox.push(syn_ack, now, SendRule::SynAck)
     }
 }
 
@@ -117,18 +118,18 @@ fn take_and_ack_fin_if_present(
 
 /// An ACK of what was received is put out at a moment.
 fn send_ack(connection: &Connection, outbox: &mut Outbox, now: u64) -> Result<(), HostEnd>
-    ensures { Gives (with_packet now (ack_of connection.now) outbox.old) result outbox.new }
+    ensures { Gives (with_packet now Ack (ack_of connection.now) outbox.old) result outbox.new }
 {
-    let ack = connection.pure_ack_segment(outbox.allocator());
-    outbox.push(ack, now)
+    let ack = connection.pure_ack_segment_at_top(outbox.allocator());
+    outbox.push(ack, now, SendRule::Ack)
 }
 
 /// The RST that refuses an ACK is put out at a moment.
 fn send_rst_refusing_ack_number(outbox: &mut Outbox, ack: u32, now: u64) -> Result<(), HostEnd>
-    ensures { Gives (with_packet now (refusal_of ack) outbox.old) result outbox.new }
+    ensures { Gives (with_packet now Rst (refusal_of ack) outbox.old) result outbox.new }
 {
     let rst = rst_refusing_ack_number(ack, outbox.allocator());
-    outbox.push(rst, now)
+    outbox.push(rst, now, SendRule::Rst)
 }
 
 fn is_syn_alone(flags: Flags) -> bool
@@ -138,8 +139,8 @@ fn is_syn_alone(flags: Flags) -> bool
 }
 
 /// Whether a first segment begins the connection.
-fn is_supported_syn_for_listener(listener: ListenState, segment: &Segment) -> bool
-    ensures { result ≡ is_supported_syn_for_listener listener segment.now }
+fn is_supported_syn_while_listening(listener: ListenState, segment: &Segment) -> bool
+    ensures { result ≡ is_supported_syn_while_listening listener segment.now }
 {
     listener.is_listening()
         && is_syn_alone(segment.flags)

@@ -4,7 +4,7 @@ ghost use Rattle.pd_host.specs.Arrivals.{reset_of, with_peer_fin};
 ghost use Rattle.pd_host.specs.Calls.{stream_of, with_stream, with_nagle, free_of, with_queued, with_fin};
 ghost use Rattle.pd_host.specs.Connection.{peer_fin_in, rcv_nxt};
 ghost use Rattle.pd_host.specs.Inner.{IsScalable};
-ghost use Rattle.pd_host.specs.Handshake.{offered_mss, is_peer_mss_supported, smss_of, agreed_window_scaling_if_offered, connection_begun, scaled_window_in, syn_acked, new_established_parts, established_by};
+ghost use Rattle.pd_host.specs.Handshake.{offered_mss, is_peer_mss_supported, smss_of, own_and_peer_shifts_if_peer_offers, connection_begun, scaled_window_in, syn_acked, new_established_parts, established_by};
 ghost use Rattle.pd_host.specs.Sending.{is_recovering};
 ghost use Rattle.pd_host.specs.declared.descriptors.StreamState.TheVariants.{Open as StreamOpen, Closed as StreamClosed};
 ghost use Rattle.pd_host.specs.Packets.{peer_window_shift};
@@ -112,8 +112,11 @@ fn smss_of(settings: &Settings, syn_options: SynOptions) -> u16
     settings.mss.min(syn_options.mss.unwrap_or(DEFAULT_MSS))
 }
 
-fn agreed_window_scaling_if_offered(settings: &Settings, syn_options: SynOptions) -> Option<Scaling>
-    ensures agreed { result ≡ agreed_window_scaling_if_offered settings.now syn_options }
+fn own_and_peer_shifts_if_peer_offers(
+    settings: &Settings,
+    syn_options: SynOptions,
+) -> Option<Scaling>
+    ensures agreed { result ≡ own_and_peer_shifts_if_peer_offers settings.now syn_options }
     ensures small { IsScalable result }
 {
     match syn_options.count {
@@ -138,7 +141,7 @@ impl Connection {
         Connection {
             own_mss: settings.mss,
             sack: settings.sack && syn_options.sack,
-            scaling: agreed_window_scaling_if_offered(settings, syn_options),
+            scaling: own_and_peer_shifts_if_peer_offers(settings, syn_options),
             rcv_wnd: settings.rcv_wnd,
             board: Board::new(alloc, smss_of(settings, syn_options)),
             fin: false,
@@ -195,7 +198,7 @@ impl Connection {
     {
         let established = self.new_established_parts(settings, segment);
         let max_window = self.max_window_with(established.rwnd);
-        self.acknowledge_syn_in_board_and_timer(settings.granularity_us, now);
+        self.acknowledge_syn_in_board_rtt_and_timer(settings.granularity_us, now);
         self.set_max_window_and_established(max_window, established);
     }
 
@@ -207,7 +210,7 @@ impl Connection {
     }
 
     /// Our SYN is acknowledged at a moment.
-    fn acknowledge_syn_in_board_and_timer(&mut self, granularity_us: u64, now: u64)
+    fn acknowledge_syn_in_board_rtt_and_timer(&mut self, granularity_us: u64, now: u64)
         requires early { now < 2 ^ 62 }
         requires begun { self.old.board.una ≤ 1 }
         requires sent { 1 ≤ self.old.board.top }

@@ -25,7 +25,7 @@ pub fn with_syn_settings(consulted_settings: SettingSet) -> SettingSet
 pub fn with_establishment_settings(consulted_settings: SettingSet) -> SettingSet
     ensures { result ≡ establishment_settings consulted_settings }
 {
-    Cong::setting_set_with_congestion_settings(SettingSet {
+    Cong::consulted_settings_plus_those_new_reads(SettingSet {
         nagle: true,
         granularity_us: true,
         ..consulted_settings
@@ -33,7 +33,7 @@ pub fn with_establishment_settings(consulted_settings: SettingSet) -> SettingSet
 }
 
 /// With the one that a `write` of some octets consults.
-pub fn with_write_settings(consulted_settings: SettingSet) -> SettingSet
+pub fn with_sndbuf_setting_of_write(consulted_settings: SettingSet) -> SettingSet
     ensures { result ≡ write_settings consulted_settings }
 {
     SettingSet {

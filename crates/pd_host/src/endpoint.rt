@@ -39,9 +39,9 @@ impl Endpoint {
     /// # Errors
     /// `AllocError` where a growth is refused, or the scoreboard has found no memory before.
     #[inline(always)]
-    pub fn copied_heap_parts(&self) -> Result<ClonedParts, AllocError>
-        ensures board { IfOk result (λ copied_heap_parts. copied_heap_parts.board ≡ option_map (λ c. c.board) self.now.connection) }
-        ensures outbox { IfOk result (λ copied_heap_parts. copied_heap_parts.outbox ≡ self.now.outbox) }
+    pub fn board_and_outbox_copies(&self) -> Result<ClonedParts, AllocError>
+        ensures board { IfOk result (λ board_and_outbox_copies. board_and_outbox_copies.board ≡ option_map (λ c. c.board) self.now.connection) }
+        ensures outbox { IfOk result (λ board_and_outbox_copies. board_and_outbox_copies.outbox ≡ self.now.outbox) }
     {
         let board = match &self.connection {
             None => None,

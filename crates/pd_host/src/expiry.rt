@@ -1,6 +1,6 @@
 //! Expiries of the retransmission timer.
 ghost use Rattle.std.specs.Prelude.{◌≡◌, ◌<◌, ◌^◌, IfOk};
-ghost use Rattle.pd_host.specs.Expiries.{deadline_of, segment_again, connection_expired, advanced};
+ghost use Rattle.pd_host.specs.Expiries.{deadline_of, segment_again, expiry_rule, connection_expired, advanced};
 ghost use Rattle.pd_host.specs.Host.{with_packet};
 ghost use Rattle.pd_host.specs.InputResults.{Gives};
 
@@ -45,9 +45,10 @@ impl SenderState {
 #[inline(never)]
 fn expire(connection: &mut Connection, outbox: &mut Outbox, at: u64) -> Result<(), HostEnd>
     requires early { at < 2 ^ 62 }
-    ensures packet { Gives (with_packet at (segment_again connection.old connection.old.established) outbox.old) result outbox.new }
+    ensures packet { Gives (with_packet at (expiry_rule connection.old.established) (segment_again connection.old connection.old.established) outbox.old) result outbox.new }
     ensures state { IfOk result (λ done. connection.new ≡ connection_expired at connection.old connection.old.established) }
 {
+    let rule = connection.expiry_rule();
     let packet = connection.expire(at, outbox.allocator())?;
-    outbox.push(packet, at)
+    outbox.push(packet, at, rule)
 }

@@ -1,4 +1,4 @@
-//! A host: the sender behind one interface, with the reason why it has ended.
+//! A host: the sender behind one interface. Packets are taken one by one. Its end stops inputs; it stays readable.
 ghost use Rattle.std.specs.Prelude.{◌≡◌, ◌<◌, ◌^◌, true, Some, IfOk, IsErr, option_map, slice_get};
 ghost use Rattle.pd_host.specs.Arrivals.{arrived, failed_check_in};
 ghost use Rattle.pd_host.specs.Calls.{called};
@@ -187,22 +187,22 @@ impl Host {
     }
 
     /// The effect of a duplicate; nothing where no octet is outstanding, loss recovery goes on, or no connection is established.
-    pub fn next_dup_ack_effect_if_any(&self) -> Option<DupAckEffect>
+    pub fn loss_evidence_or_barring_recovery_point(&self) -> Option<DupAckEffect>
         ensures { result ≡ dup_ack_status_in self.now.state }
     {
         match &self.state.endpoint.connection {
             None => None,
-            Some(connection) => connection.next_dup_ack_effect_if_any(),
+            Some(connection) => connection.loss_evidence_or_barring_recovery_point(),
         }
     }
 
     /// How the timeout comes from what was measured of round trips; nothing before any measurement.
-    pub fn rto_derivation(&self) -> Option<Timeout>
+    pub fn measured_rto_derivation_before_backoff(&self) -> Option<Timeout>
         ensures { result ≡ measured_in self.now.state }
     {
         match &self.state.endpoint.connection {
             None => None,
-            Some(connection) => connection.rto_derivation(),
+            Some(connection) => connection.measured_rto_derivation_before_backoff(),
         }
     }
 
@@ -265,7 +265,7 @@ impl Host {
 
     /// No memory was found for the next input: the host answers that from now on, unless it has ended already.
     /// The result is its answer.
-    pub fn end_out_of_memory_unless_ended(&mut self) -> HostEnd
+    pub fn get_or_set_end_reason_to_out_of_memory(&mut self) -> HostEnd
         ensures ending { result ≡ end_of self.old }
         ensures end_reason { self.new ≡ ended_out_of_memory self.old }
     {
@@ -281,8 +281,8 @@ impl Host {
         ensures ok { IfOk result (λ copy. copy ≡ self.now) }
         ensures again { self.now.end_reason ≡ Some OutOfMemory → IsErr result }
     {
-        let copied_heap_parts = self.copied_heap_parts()?;
-        Ok(self.with_heap_parts(copied_heap_parts))
+        let board_and_outbox_copies = self.board_and_outbox_copies()?;
+        Ok(self.with_heap_parts(board_and_outbox_copies))
     }
 
     /// Copies of what of it takes memory.
@@ -290,25 +290,25 @@ impl Host {
     /// # Errors
     /// Out of memory, also where the host has ended by it.
     #[inline(always)]
-    pub fn copied_heap_parts(&self) -> Result<ClonedParts, AllocError>
-        ensures board { IfOk result (λ copied_heap_parts. copied_heap_parts.board ≡ option_map (λ c. c.board) self.now.state.endpoint.connection) }
-        ensures outbox { IfOk result (λ copied_heap_parts. copied_heap_parts.outbox ≡ self.now.state.endpoint.outbox) }
+    pub fn board_and_outbox_copies(&self) -> Result<ClonedParts, AllocError>
+        ensures board { IfOk result (λ board_and_outbox_copies. board_and_outbox_copies.board ≡ option_map (λ c. c.board) self.now.state.endpoint.connection) }
+        ensures outbox { IfOk result (λ board_and_outbox_copies. board_and_outbox_copies.outbox ≡ self.now.state.endpoint.outbox) }
         ensures again { self.now.end_reason ≡ Some OutOfMemory → IsErr result }
     {
         if let Some(HostEnd::OutOfMemory) = self.end_reason {
             return Err(AllocError);
         }
-        self.state.endpoint.copied_heap_parts()
+        self.state.endpoint.board_and_outbox_copies()
     }
 
     /// The same host once more, with copies of what takes memory.
     #[inline(always)]
-    pub fn with_heap_parts(&self, copied_heap_parts: ClonedParts) -> Host
-        requires board { copied_heap_parts.board ≡ option_map (λ c. c.board) self.now.state.endpoint.connection }
-        requires outbox { copied_heap_parts.outbox ≡ self.now.state.endpoint.outbox }
+    pub fn with_heap_parts(&self, board_and_outbox_copies: ClonedParts) -> Host
+        requires board { board_and_outbox_copies.board ≡ option_map (λ c. c.board) self.now.state.endpoint.connection }
+        requires outbox { board_and_outbox_copies.outbox ≡ self.now.state.endpoint.outbox }
         ensures { result ≡ self.now }
     {
-        let ClonedParts { board, outbox } = copied_heap_parts;
+        let ClonedParts { board, outbox } = board_and_outbox_copies;
         let mut connection = None;
         if let (Some(begun), Some(board)) = (&self.state.endpoint.connection, board) {
             begun.store_copy_with_board(board, &mut connection);

@@ -1,4 +1,4 @@
-//! Laws of the rules: functions without code, whose contracts are the laws.
+//! Laws of the rules: contracts of functions without code. Inputs only append packets, and only consulted settings matter.
 ghost use Rattle.pd_host.specs.Growth.{ExpiriesQueueNothing, ArrivalsQueueOurSyn, CallsQueueWhatTheyAsk, CallsAskFew};
 ghost use Rattle.pd_host.specs.LossEvidence.{LossEvidenceIsNeeded};
 ghost use Rattle.pd_host.specs.StateDiagram.{FollowsStateDiagram};
@@ -12,7 +12,7 @@ use pd_recover::law_congestion_control_and_loss_recovery;
 use pd_timer::law_rto_bounded_and_expiries_back_off;
 
 /// The laws of every segment that arrives, whatever the checks and their order.
-pub fn law_outside_arrivals_harmless_exact_rst_resets()
+pub fn law_outside_harmless_only_exact_rst_resets()
     ensures outside { OutsideIsHarmless }
     ensures resets { OnlyAnExactRstResets }
     ensures packets { PutsOutAfter }
@@ -35,7 +35,7 @@ pub fn law_expiries_append_in_order_without_settings()
 {}
 
 /// The laws of all that is sent, whatever came in.
-pub fn law_sends_exactly_what_windows_permit()
+pub fn law_sending_by_windows_prr_karn_fin_and_sack()
     ensures flow { ControlsFlow }
     ensures window { StaysInWindow }
     ensures congestion { ControlsCongestion }
@@ -85,7 +85,7 @@ pub fn law_reachable_states_lawful_and_follow_diagram()
 }
 
 /// Where nothing holds a segment back ordinary sending finds one, and only there.
-pub fn law_sends_exactly_where_nothing_blocks()
+pub fn law_ordinary_sending_iff_no_blocker()
     ensures { SendsWhereNothingBlocks }
 {}
 
@@ -95,7 +95,7 @@ pub fn law_recovery_begins_iff_evidence_complete()
 {}
 
 /// How much an input queues at most.
-pub fn law_queued_octets_per_input_bounded()
+pub fn law_send_buffer_growth_per_input_bounded()
     ensures expiries { ExpiriesQueueNothing }
     ensures arrivals { ArrivalsQueueOurSyn }
     ensures calls { CallsQueueWhatTheyAsk }

@@ -72,10 +72,10 @@ pub use halts::{Halt, HostEnd};
 pub use host::Host;
 pub use laws::{
     law_calls_append_and_depend_on_consulted, law_each_send_appends_one_packet,
-    law_expiries_append_in_order_without_settings, law_outside_arrivals_harmless_exact_rst_resets,
-    law_packets_in_order_and_deadline_ahead, law_queued_octets_per_input_bounded,
+    law_expiries_append_in_order_without_settings, law_ordinary_sending_iff_no_blocker,
+    law_outside_harmless_only_exact_rst_resets, law_packets_in_order_and_deadline_ahead,
     law_reachable_states_lawful_and_follow_diagram, law_recovery_begins_iff_evidence_complete,
-    law_sends_exactly_what_windows_permit, law_sends_exactly_where_nothing_blocks,
+    law_send_buffer_growth_per_input_bounded, law_sending_by_windows_prr_karn_fin_and_sack,
 };
 pub use outbox::Outbox;
 pub use syscall::{SocketOperation, Syscall, is_shape_supported};

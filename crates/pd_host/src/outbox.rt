@@ -1,11 +1,11 @@
-//! The packets that were put out and not yet taken.
+//! The packets that were put out and not yet taken, at most 1,024: the oldest is taken first, one at a time.
 ghost use Rattle.std.specs.Prelude.{◌≡◌, ◌==◌, [], not, length, option_copied, slice_get, drop, IfOk, OnOk};
 ghost use Rattle.pd_host.specs.InputResults.{Gives};
 ghost use Rattle.pd_host.specs.OutboxLimit.{has_place};
 ghost use Rattle.pd_host.specs.Host.{with_packet};
 
 use crate::halts::{Halt, HostEnd};
-use pd_seg::{Segment, Sent};
+use pd_seg::{Segment, SendRule, Sent};
 use std::alloc::{AllocError, Global};
 use std::collections::VecDeque;
 use std::marker::Model;
@@ -81,18 +81,22 @@ impl Outbox {
         self.packets.len() >= MAX_PACKETS
     }
 
-    /// Puts a segment out at a moment, after the others.
+    /// Puts a segment out at a moment by a rule, after the others.
     ///
     /// # Errors
     /// `Halted` by `Limit` where the outbox is full, else `OutOfMemory` where a growth is refused.
-    pub fn push(&mut self, segment: Segment, now: u64) -> Result<(), HostEnd>
-        ensures { Gives (with_packet now segment self.old) result self.new }
+    pub fn push(&mut self, segment: Segment, now: u64, rule: SendRule) -> Result<(), HostEnd>
+        ensures { Gives (with_packet now rule segment self.old) result self.new }
     {
         if self.is_full() {
             return Err(HostEnd::Halted(Halt::Limit));
         }
         self.packets.reserve(1)?;
-        self.packets.push_back_reserved(Sent { segment, at: now });
+        self.packets.push_back_reserved(Sent {
+            segment,
+            at: now,
+            rule,
+        });
         Ok(())
     }
 

@@ -1,4 +1,4 @@
-//! The table of calls.
+//! The table of calls, on descriptors 3 and 4. Octets that `write` queues, and a FIN, leave at once outside loss recovery.
 ghost use Rattle.std.specs.Prelude.{◌≡◌, ℕ, ◌+◌, ◌<◌, ◌^◌, min, Some, Ok};
 ghost use Rattle.pd_host.specs.Calls.{Listening, open_stream, has_begun_unaccepted_connection, socket_reply, bind_reply, listen_reply, accept_reply, handed_out, free_of, queued, closed_on, close_reply, operated, on_open, reply_to};
 ghost use Rattle.pd_host.specs.InputResults.{GivesAnswer};
@@ -6,7 +6,7 @@ ghost use Rattle.pd_host.specs.Growth.{asked_by, asked_of, HasRoomFor};
 ghost use Rattle.pd_host.specs.Steps.{AnswersOn};
 
 use crate::connection::Connection;
-use crate::consulted_settings::with_write_settings;
+use crate::consulted_settings::with_sndbuf_setting_of_write;
 use crate::descriptors::ListenState;
 use crate::endpoint::{Endpoint, SenderState};
 use crate::halts::{Halt, HostEnd};
@@ -80,7 +80,7 @@ impl SenderState {
     {
         match operation {
             SocketOperation::Bind => Ok(self.bind_once_or_einval()),
-            SocketOperation::Listen => Ok(self.listen_if_bound_or_einval()),
+            SocketOperation::Listen => Ok(self.listen_if_bound_or_listening_else_einval()),
             SocketOperation::Accept => Ok(self.accept_if_listening_or_einval()),
             SocketOperation::ReuseAddress
             | SocketOperation::NoDelay(_)
@@ -102,7 +102,7 @@ impl SenderState {
         }
     }
 
-    fn listen_if_bound_or_einval(&mut self) -> Answer
+    fn listen_if_bound_or_listening_else_einval(&mut self) -> Answer
         ensures { listen_reply self.old self.old.endpoint.listener Listening ≡ Ok (self.new, result) }
     {
         match self.endpoint.listener {
@@ -177,7 +177,7 @@ impl SenderState {
             SocketOperation::Write(_) if connection.is_reset() => Ok(Answer::Error(Errno::Epipe)),
             SocketOperation::Write(0) => Ok(DONE),
             SocketOperation::Write(n) => {
-                self.consulted_settings = with_write_settings(self.consulted_settings);
+                self.consulted_settings = with_sndbuf_setting_of_write(self.consulted_settings);
                 let sndbuf = self.settings.sndbuf;
                 write(connection, &mut self.endpoint.outbox, n, sndbuf, now)
             }

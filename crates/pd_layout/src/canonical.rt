@@ -7,7 +7,7 @@ ghost use Rattle.pd_print.specs.Packets.{event_text};
 ghost use Rattle.pd_layout.specs.Internal.{lines_of};
 
 use crate::canonical_calls::{has_prefix_and_gap, is_line_canonical_call_and_gap};
-use crate::comments::{are_empty_or_comment_lines, are_rest_and_later_lines_only_comments};
+use crate::comments::{are_empty_or_closed_comment_lines, are_rest_and_later_lines_only_comments};
 use crate::line_cursor::LineCursor;
 use pd_print::{Direction, put_event};
 use pd_script::{Action, Event, HeaderItem, Packet, Time};
@@ -27,7 +27,7 @@ pub fn is_canonical(
     ensures { IfOk result (λ canonical. canonical ≡ is_canonical lines.now items.now events.now) }
 {
     let first = first_item_event_or_end_line_index(lines, items, events);
-    if are_empty_or_comment_lines(false, LineCursor::new(lines, 0, first))
+    if are_empty_or_closed_comment_lines(false, LineCursor::new(lines, 0, first))
         && are_header_items_canonical(lines, items, events)
     {
         are_events_canonical(alloc, lines, events)

@@ -11,13 +11,13 @@ pub fn are_rest_and_later_lines_only_comments(rest: &[u8], lines: LineCursor<'_>
     ensures { result ≡ gap (lines_of lines.entry) rest.now }
 {
     match comment_goes_on_if_trailing_comments_only(rest) {
-        Some(inside) => are_empty_or_comment_lines(inside, lines),
+        Some(inside) => are_empty_or_closed_comment_lines(inside, lines),
         None => false,
     }
 }
 
 /// Whether these are lines in front of an event, the first of them within a comment or not.
-pub fn are_empty_or_comment_lines(inside: bool, lines: LineCursor<'_>) -> bool
+pub fn are_empty_or_closed_comment_lines(inside: bool, lines: LineCursor<'_>) -> bool
     ensures { result ≡ lead inside (lines_of lines.entry) }
 {
     let mut inside = inside;
@@ -42,12 +42,12 @@ fn comment_goes_on_if_empty_or_comment(inside: bool, line: &[u8]) -> Option<bool
     } else if line.is_empty() {
         Some(false)
     } else {
-        comment_goes_on_if_line_is_comment(line)
+        comment_goes_on_if_comment_or_indented_trace(line)
     }
 }
 
 /// Whether a comment alone in its line goes on after it; nothing where the line is none.
-fn comment_goes_on_if_line_is_comment(line: &[u8]) -> Option<bool>
+fn comment_goes_on_if_comment_or_indented_trace(line: &[u8]) -> Option<bool>
     ensures { result ≡ comment line.now }
 {
     if let Some(rest) = line.strip_prefix(b" ") {

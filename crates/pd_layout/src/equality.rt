@@ -51,9 +51,7 @@ fn is_same_action(one: &Action, other: &Action) -> bool
 {
     match (one, other) {
         (Action::Inbound(mine), Action::Inbound(its))
-        | (Action::Outbound(mine), Action::Outbound(its)) => is_same_packet_but_for_direction(
-            mine, its,
-        ),
+        | (Action::Outbound(mine), Action::Outbound(its)) => is_same_packet(mine, its),
         (Action::Call(mine), Action::Call(its)) => is_same_call(mine, its),
         (Action::Command, Action::Command) | (Action::Code, Action::Code) => true,
         _ => false,
@@ -172,7 +170,7 @@ fn is_same_error(one: ErrorName, other: ErrorName) -> bool
 }
 
 /// Whether two packets agree in every field.
-fn is_same_packet_but_for_direction(one: &Packet, other: &Packet) -> bool
+fn is_same_packet(one: &Packet, other: &Packet) -> bool
     ensures { IsTrue result ↔ (one.now ≡ other.now) }
 {
     is_same_flags(one.flags, other.flags)

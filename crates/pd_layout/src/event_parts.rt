@@ -73,7 +73,7 @@ impl EventParts {
     }
 
     /// The part that was read last.
-    pub(crate) fn current_part(&self) -> TextPart {
+    pub(crate) fn part_of_last_token(&self) -> TextPart {
         self.current
     }
 

@@ -1,7 +1,7 @@
 //! How a script stands in its text: the octets of its parts, with the comments and blank lines around them.
 use crate::event_parts::{EventParts, TextPart};
 use crate::single_line::parts_if_event_is_plain_single_line;
-use crate::spans::{TextSpan, is_before, place_after_last_line};
+use crate::spans::{TextSpan, is_place_before_other, place_after_last_line};
 use crate::trivia::{TriviaPart, append_comments_and_blank_lines_of_gap};
 use pd_lex::{Lexed, Place, Token, TokenKind, next_token};
 use pd_text::{Lines, MAX_OCTETS};
@@ -37,7 +37,7 @@ impl Layout {
     }
 
     /// Reads the next token, with what is before it.
-    fn add_token_and_trivia_before_it(
+    fn add_token_with_trivia_before_unless_in_call(
         &mut self,
         lines: &Lines,
         token: &Token<'_>,
@@ -46,7 +46,7 @@ impl Layout {
             from: self.parts.event.to,
             to: token.from,
         };
-        match self.parts.current_part() {
+        match self.parts.part_of_last_token() {
             TextPart::Call => {}
             TextPart::Note => append_comments_and_blank_lines_of_gap(
                 &mut self.in_note,
@@ -138,8 +138,8 @@ impl<'a> LayoutReader<'a> {
         // A text has no more tokens than octets.
         for _ in 0..MAX_OCTETS {
             match next_token(self.lines, place) {
-                Lexed::Token(token) if is_before(token.from, until) => {
-                    layout.add_token_and_trivia_before_it(self.lines, &token)?;
+                Lexed::Token(token) if is_place_before_other(token.from, until) => {
+                    layout.add_token_with_trivia_before_unless_in_call(self.lines, &token)?;
                     place = token.to;
                 }
                 _ => break,

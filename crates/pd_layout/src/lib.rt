@@ -8,7 +8,7 @@
 //!
 //! A text has the layout of recordings if it `IsCanonical` (specs/Canonical.antt), whatever wrote it. That
 //! the answer of a call follows the first equals sign outside of brackets is the law
-//! `law_equals_and_note_ends_outside_brackets`. `LayoutReader` promises nothing.
+//! `law_equals_and_note_end_are_first_outside`. `LayoutReader` promises nothing.
 //!
 //! Why it is so:
 //! - A `Layout` has places of the text, and no octets. Whoever writes the script anew copies from
@@ -39,7 +39,7 @@ mod trivia;
 pub use canonical::is_canonical;
 pub use equality::is_same_event_but_for_line;
 pub use event_parts::EventParts;
-pub use laws::law_equals_and_note_ends_outside_brackets;
+pub use laws::law_equals_and_note_end_are_first_outside;
 pub use layouts::{Layout, LayoutReader};
 pub use script_check::{are_same_events_but_for_lines, is_canonical_text_of_header_and_events};
 pub use spans::{TextSpan, put_text_span};

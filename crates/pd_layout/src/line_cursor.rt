@@ -1,4 +1,4 @@
-//! Lines of a text, one after the other.
+//! A range of a text's lines, which gives its first line and, apart from it, the range of those that follow.
 ghost use Rattle.std.specs.Prelude.{◌≡◌, ◌∷◌, [], MatchOption};
 ghost use Rattle.pd_layout.specs.Canonical.{lines_between};
 ghost use Rattle.pd_layout.specs.Internal.{lines_of};

@@ -6,8 +6,8 @@ ghost use Rattle.pd_script.specs.Cursor.{shown};
 ghost use Rattle.pd_script.specs.Items.{is_symbol};
 
 use pd_lex::{
-    Lexed, Place, Token, TokenKind, next_token_and_its_end_line,
-    replace_lookahead_by_next_token_from,
+    Lexed, Place, Token, TokenKind, advance_lookahead_from_place_in_its_line,
+    next_token_and_octets_of_its_end_line,
 };
 use pd_text::Lines;
 
@@ -17,7 +17,7 @@ pub fn find_place_of_symbol_outside_brackets(lines: &Lines, from: Place, octet: 
 {
     // A look at a line shows that a text has few octets, and so few brackets.
     let _first = lines.line(1);
-    let mut lookahead = next_token_and_its_end_line(lines, from);
+    let mut lookahead = next_token_and_octets_of_its_end_line(lines, from);
     let mut depth = 0;
     'tokens: loop {
         let Lexed::Token(token) = lookahead.next else {
@@ -27,7 +27,7 @@ pub fn find_place_of_symbol_outside_brackets(lines: &Lines, from: Place, octet: 
         if is_symbol_outside(depth, &token, octet) {
             return Some(token.from);
         }
-        replace_lookahead_by_next_token_from(lines, token.to, &mut lookahead);
+        advance_lookahead_from_place_in_its_line(lines, token.to, &mut lookahead);
     }
 }
 

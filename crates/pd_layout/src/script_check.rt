@@ -44,12 +44,12 @@ fn is_faultless_parse_of_header_and_events(
     ensures { IsTrue result ↔ IsScript header.now.items events.now parsed.now }
 {
     parsed.fault.is_none()
-        && is_same_header(parsed.header.as_slice(), header.as_slice())
+        && is_same_header_but_for_lines(parsed.header.as_slice(), header.as_slice())
         && are_same_events_but_for_lines(parsed.events.as_slice(), events)
 }
 
 /// Whether both say the same in the same order.
-fn is_same_header(one: &[HeaderItem], other: &[HeaderItem]) -> bool
+fn is_same_header_but_for_lines(one: &[HeaderItem], other: &[HeaderItem]) -> bool
     ensures { IsTrue result ↔ (kinds_of one.now ≡ kinds_of other.now) }
 {
     one.len() == other.len()

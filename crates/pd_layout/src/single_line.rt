@@ -84,7 +84,7 @@ fn is_time_octet_or_blank(octet: &u8) -> bool {
 
 /// Whether a letter, which would begin a call, may be in the middle of a token.
 fn is_letter_right_after_time_token(parts: &EventParts, octet: u8, at: usize) -> bool {
-    parts.current_part() == TextPart::Time
+    parts.part_of_last_token() == TextPart::Time
         && parts.event.to.at == at
         && is_letter_or_underscore(octet)
 }

@@ -13,7 +13,7 @@ pub struct TextSpan {
 }
 
 /// Whether a place is before another.
-pub fn is_before(place: Place, other: Place) -> bool {
+pub fn is_place_before_other(place: Place, other: Place) -> bool {
     place.line < other.line || (place.line == other.line && place.at < other.at)
 }
 

@@ -1,5 +1,5 @@
 //! The trivia between the tokens of a text: comments and blank lines.
-use crate::spans::{TextSpan, is_before};
+use crate::spans::{TextSpan, is_place_before_other};
 use pd_lex::Place;
 use pd_text::{Lines, MAX_OCTETS};
 use std::alloc::AllocError;
@@ -31,7 +31,7 @@ pub fn append_comments_and_blank_lines_of_gap(
         };
         let at = first_nonblank_from(line, place.at);
         place.at = at;
-        if !is_before(place, gap.to) {
+        if !is_place_before_other(place, gap.to) {
             return Ok(());
         }
         if at >= line.len() {

@@ -1,4 +1,4 @@
-//! The common tokens at the front of a line.
+//! The common tokens at the front of a line, read at once; `None` leaves the octets to `step`.
 ghost use Rattle.std.specs.Prelude.{◌≡◌, ◌≤◌, ◌<◌, true, [], ◌∷◌, Some, length, take, get_or, fold, IfSome};
 ghost use Rattle.std.specs.List.{prefix_len};
 ghost use Rattle.pd_lex.specs.Octets.{is_digit};
@@ -31,7 +31,7 @@ const FEW: usize = 9;
 
 /// How many digits are at the front, and the number that they write modulo 2^64.
 #[inline(always)]
-fn digit_count_and_value(s: &[u8]) -> (usize, u64)
+fn digit_count_and_wrapping_value(s: &[u8]) -> (usize, u64)
     ensures len { result.0 ≡ prefix_len is_digit s.now }
     ensures number { result.1 ≡ fold wrapped_digit 0 (take (prefix_len is_digit s.now) s.now) }
     ensures within { result.0 ≤ length s.now }
@@ -51,13 +51,13 @@ fn digit_count_and_value(s: &[u8]) -> (usize, u64)
 
 /// The Int or the Decimal at the front, if its whole part has few digits.
 #[inline(always)]
-pub fn few_digit_number_token(s: &[u8]) -> Option<FastToken>
+pub fn int_or_decimal_token_if_few_whole_digits(s: &[u8]) -> Option<FastToken>
     ensures piece { IfSome result (λ p. Whole p.kind p.len ≡ piece s.now) }
     ensures within { IfSome result (λ p. p.len ≤ length s.now) }
     ensures number { IfSome result (λ p. p.kind ≡ Int → p.number ≡ capped_number (take p.len s.now)) }
     ensures symbol { IfSome result (λ p. p.kind ≡ Symbol → take p.len s.now ≡ p.symbol ∷ []) }
 {
-    let (len, number) = digit_count_and_value(s);
+    let (len, number) = digit_count_and_wrapping_value(s);
     // A number of more digits may not fit into 64 bits: `step` reads it.
     if len == 0 || len > FEW {
         return None;
@@ -85,7 +85,7 @@ pub fn few_digit_number_token(s: &[u8]) -> Option<FastToken>
 
 /// The word at the front.
 #[inline(always)]
-pub fn word_token(s: &[u8]) -> Option<FastToken>
+pub fn word_token_trusting_first_octet(s: &[u8]) -> Option<FastToken>
     requires { begins_name s.now ≡ true }
     ensures piece { IfSome result (λ p. Whole p.kind p.len ≡ piece s.now) }
     ensures within { IfSome result (λ p. p.len ≤ length s.now) }

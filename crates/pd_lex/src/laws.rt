@@ -17,6 +17,6 @@ pub fn law_tokens_are_exactly_longest_pieces()
 {}
 
 /// A law, and no work: the items after a token are those from the place after it.
-pub fn law_items_after_token_follow_its_end()
+pub fn law_lexing_resumes_at_token_end()
     ensures { ItemsGoOn }
 {}

@@ -2,8 +2,8 @@
 //!
 //! `next_token` passes over blanks and comments, and gives the token at a `Place` of a text, the
 //! end of the text, or the line where no token can be read (`Lexed`). A `Token` has its kind, its
-//! octets, the meaning of a symbol or a whole number, and the place after it. `next_token_and_its_end_line` and
-//! `replace_lookahead_by_next_token_from` are for a reader that goes on from token to token: they hand on the line of that
+//! octets, the meaning of a symbol or a whole number, and the place after it. `next_token_and_octets_of_its_end_line` and
+//! `advance_lookahead_from_place_in_its_line` are for a reader that goes on from token to token: they hand on the line of that
 //! place, so that it isn't looked up again.
 //!
 //! A token is the longest piece that the text has at its place: `IsLongest` (specs/Spellings.antt).
@@ -36,9 +36,11 @@ mod step;
 mod token;
 
 pub use laws::{
-    law_first_lines_fix_tokens_in_order, law_items_after_token_follow_its_end,
+    law_first_lines_fix_tokens_in_order, law_lexing_resumes_at_token_end,
     law_tokens_are_exactly_longest_pieces,
 };
-pub use next::{next_token, next_token_and_its_end_line, replace_lookahead_by_next_token_from};
+pub use next::{
+    advance_lookahead_from_place_in_its_line, next_token, next_token_and_octets_of_its_end_line,
+};
 pub use numbers::{digit_value, saturating_decimal_value, saturating_value_with_more_digits};
 pub use token::{Lexed, Lookahead, Place, Token, TokenKind};

@@ -12,8 +12,8 @@ ghost use Rattle.pd_lex.specs.Places.{line_at};
 
 use crate::classes::{OctetClass, class_of};
 use crate::fast_path::{
-    FastToken, few_digit_number_token, symbol_token_trusting_first_octet,
-    three_dots_or_point_before_blank_token, word_token,
+    FastToken, int_or_decimal_token_if_few_whole_digits, symbol_token_trusting_first_octet,
+    three_dots_or_point_before_blank_token, word_token_trusting_first_octet,
 };
 use crate::numbers::number_if_int_or_zero;
 use crate::places::{first_nonblank_from, line_or_empty};
@@ -32,11 +32,11 @@ pub fn next_token<'a>(lines: &'a Lines, place: Place) -> Lexed<'a>
     ensures line { HasLine lines.now result }
     ensures text { HasText lines.now result }
 {
-    next_token_and_its_end_line(lines, place).next
+    next_token_and_octets_of_its_end_line(lines, place).next
 }
 
 /// `next_token`, with the line of the place after it.
-pub fn next_token_and_its_end_line<'a>(lines: &'a Lines, place: Place) -> Lookahead<'a>
+pub fn next_token_and_octets_of_its_end_line<'a>(lines: &'a Lines, place: Place) -> Lookahead<'a>
     ensures next { IsNext lines.now place result.next }
     ensures cut { IsCut lines.now place result.next }
     ensures line { HasLine lines.now result.next }
@@ -53,7 +53,7 @@ pub fn next_token_and_its_end_line<'a>(lines: &'a Lines, place: Place) -> Lookah
 
 /// The same, put in the place of what was read before, where the line of the place is known.
 #[inline(always)]
-pub fn replace_lookahead_by_next_token_from<'a>(
+pub fn advance_lookahead_from_place_in_its_line<'a>(
     lines: &'a Lines,
     place: Place,
     lookahead: &mut Lookahead<'a>,
@@ -128,14 +128,14 @@ fn set_lookahead_by_class_of_first_octet<'a>(
             symbol_token_trusting_first_octet(rest),
             lookahead,
         ),
-        _ => set_lookahead_to_non_symbol_token(lines, from, rest, lookahead),
+        _ => set_lookahead_to_token_of_non_symbol_class(lines, from, rest, lookahead),
     }
 }
 
 /// Reads a token that its first octet doesn't show to be a symbol. It is apart, since a symbol
 /// needs fewer registers.
 #[inline(never)]
-fn set_lookahead_to_non_symbol_token<'a>(
+fn set_lookahead_to_token_of_non_symbol_class<'a>(
     lines: &'a Lines,
     from: Place,
     rest: &'a [u8],
@@ -147,14 +147,14 @@ fn set_lookahead_to_non_symbol_token<'a>(
     ensures { IsReadAt lines.now from lookahead.new.next lookahead.new.line.now }
 {
     if is_digit(rest[0]) {
-        return set_lookahead_to_number_token(lines, from, rest, lookahead);
+        return set_lookahead_to_token_beginning_with_digit(lines, from, rest, lookahead);
     }
     match class_of(rest[0]) {
         OctetClass::Letter => set_fast_token_or_read_any(
             lines,
             from,
             rest,
-            word_token(rest),
+            word_token_trusting_first_octet(rest),
             lookahead,
         ),
         _ => set_lookahead_to_dots_point_or_any(lines, from, rest, lookahead),
@@ -163,7 +163,7 @@ fn set_lookahead_to_non_symbol_token<'a>(
 
 /// Reads a piece that begins with a digit. It is apart, since a word needs fewer registers.
 #[inline(never)]
-fn set_lookahead_to_number_token<'a>(
+fn set_lookahead_to_token_beginning_with_digit<'a>(
     lines: &'a Lines,
     from: Place,
     rest: &'a [u8],
@@ -174,7 +174,13 @@ fn set_lookahead_to_number_token<'a>(
     requires known { lookahead.old.line.now ≡ line_at lines.now from.line }
     ensures { IsReadAt lines.now from lookahead.new.next lookahead.new.line.now }
 {
-    set_fast_token_or_read_any(lines, from, rest, few_digit_number_token(rest), lookahead);
+    set_fast_token_or_read_any(
+        lines,
+        from,
+        rest,
+        int_or_decimal_token_if_few_whole_digits(rest),
+        lookahead,
+    );
 }
 
 /// Reads what begins with a point, or with an octet of no class.

@@ -1,4 +1,4 @@
-//! The numbers that digits write.
+//! The numbers that digits write, in bases up to 36; an octet that is no digit has the value 36.
 ghost use Rattle.std.specs.Prelude.{◌≡◌, ◌≤◌, fold, length};
 ghost use Rattle.std.specs.Char.{digit_value};
 ghost use Rattle.pd_lex.specs.declared.token.TokenKind.TheVariants.{Int};

@@ -15,7 +15,7 @@ pub fn check_call(call: &Call, answer: &Answer) -> Option<Kind>
     ensures value { result ≡ result_mismatch call.now.result answer.now }
     ensures agrees { IsNone result ↔ IsResult call.now.result answer.now }
 {
-    if number_of_expected_result(call.result) == answer_number_or_minus_one_on_error(*answer)
+    if signed_number_of_expected_result(call.result) == answer_number_or_minus_one_on_error(*answer)
         && matches_error_name_if_expected(call.result, *answer)
     {
         None
@@ -24,7 +24,7 @@ pub fn check_call(call: &Call, answer: &Answer) -> Option<Kind>
     }
 }
 
-fn number_of_expected_result(expected_result: ExpectedResult) -> i64
+fn signed_number_of_expected_result(expected_result: ExpectedResult) -> i64
     ensures { result ≡ value_written expected_result }
 {
     match expected_result {

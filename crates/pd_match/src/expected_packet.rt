@@ -4,7 +4,7 @@ ghost use Rattle.pd_match.specs.Packets.{compared_fields, in_time, same_flags, s
 ghost use Rattle.pd_match.specs.Agreement.{Agrees, IsFirstFailing};
 
 use crate::kinds::Kind;
-use crate::written_options::has_written_options;
+use crate::written_options::has_exactly_written_options_unless_any;
 use pd_script::{Packet, PacketFlags};
 use pd_seg::{Segment, Sent};
 
@@ -35,7 +35,7 @@ fn first_difference(expect: &Expect<'_>, sent: &Sent, tolerance: u64) -> Option<
 {
     let packet = expect.packet;
     let segment = &sent.segment;
-    if !is_in_time(expect.time_range, sent.at, tolerance) {
+    if !is_in_time_range_within_tolerance(expect.time_range, sent.at, tolerance) {
         Some(Kind::Time)
     } else if !has_written_flags(&packet.flags, &segment.flags) {
         Some(Kind::Flags)
@@ -45,14 +45,18 @@ fn first_difference(expect: &Expect<'_>, sent: &Sent, tolerance: u64) -> Option<
         Some(Kind::Ack)
     } else if !matches_if_written(packet.win, u32::from(segment.win)) {
         Some(Kind::Win)
-    } else if !has_written_options(&packet.options, &segment.options) {
+    } else if !has_exactly_written_options_unless_any(&packet.options, &segment.options) {
         Some(Kind::Options)
     } else {
         None
     }
 }
 
-fn is_in_time(time_range: Option<(u64, u64)>, at: u64, tolerance: u64) -> bool
+fn is_in_time_range_within_tolerance(
+    time_range: Option<(u64, u64)>,
+    at: u64,
+    tolerance: u64,
+) -> bool
     ensures { result ≡ in_time time_range at tolerance }
 {
     match time_range {

@@ -7,7 +7,7 @@ use pd_seg::{SegOption, SegOptions, Span};
 
 /// Whether the options that were sent are those that a script writes: any for `<...>`, none where it writes no angle
 /// brackets, else the same ones in the same order.
-pub fn has_written_options(written: &Options, sent: &SegOptions) -> bool
+pub fn has_exactly_written_options_unless_any(written: &Options, sent: &SegOptions) -> bool
     ensures { result ≡ same_options written.now sent.now }
 {
     match written {

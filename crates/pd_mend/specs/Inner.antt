@@ -6,7 +6,7 @@ use Rattle.pd_text.specs.declared.line_edit.LineEdit.{LineEdit}
 use Rattle.pd_settings.specs.declared.settings.Settings.{Settings}
 use Rattle.pd_run.specs.declared.verdict.Verdict.{Verdict}
 use Rattle.pd_script.specs.declared.script_events.Event.{Event}
-use Rattle.pd_explain.specs.declared.leftovers.Leftovers.{Leftovers}
+use Rattle.pd_cause.specs.declared.leftovers.Leftovers.{Leftovers}
 use Rattle.pd_mend.specs.Mending.{IsFollowed, IsMend, IsRetiming}
 use Rattle.pd_mend.specs.declared.mend_error.MendError.{MendError}
 use Rattle.pd_mend.specs.declared.mend_error.MendError.TheVariants.{Stopped, TooLarge, OutOfMemory}

@@ -13,7 +13,7 @@ use Rattle.pd_run.specs.Run.{verdict_of}
 use Rattle.pd_run.specs.Step.{RunStateView}
 use Rattle.pd_run.specs.declared.verdict.Verdict.{Verdict}
 use Rattle.pd_run.specs.declared.verdict.Verdict.TheVariants.{Fail, Pass}
-use Rattle.pd_explain.specs.Leftovers.{awaits_any_packet, end_in}
+use Rattle.pd_cause.specs.Leftovers.{awaits_any_packet, end_in}
 
 -- a verdict is no pass
 abbrev pub IsNoPass : Verdict → Type 0

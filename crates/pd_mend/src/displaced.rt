@@ -1,4 +1,4 @@
-//! Packets that were sent in the places of others.
+//! Packets that mends wrote where another one was awaited, or none; a later line that awaits one has its packet there.
 use crate::differences::Differences;
 use pd_script::Packet;
 use pd_seg::Sent;
@@ -23,7 +23,7 @@ impl Displaced {
     ///
     /// # Errors
     /// `AllocError` where a growth is refused.
-    pub fn add_packet(&mut self, sent: Sent) -> Result<(), AllocError> {
+    pub fn add_packet_written_by_mend(&mut self, sent: Sent) -> Result<(), AllocError> {
         Ok(self.packets.push(sent)?)
     }
 

@@ -28,7 +28,7 @@ impl EventText {
     ///
     /// # Errors
     /// `AllocError` where a growth is refused.
-    pub fn from_line_that_awaits_packet(
+    pub fn from_event_line_and_its_packet(
         own: &EventLine<'_>,
         packet: &Packet,
     ) -> Result<EventText, AllocError> {

@@ -36,7 +36,7 @@ impl ExpectedPacket<'_> {
 ///
 /// # Errors
 /// `AllocError` where a growth is refused.
-pub fn packets_awaited_before_next_input<'a>(
+pub fn awaited_packets_and_next_input_moment<'a>(
     alloc: Global,
     events: &'a [Event],
     base: u64,

@@ -32,7 +32,7 @@ impl<'a> FailureSite<'a> {
     ///
     /// # Errors
     /// `AllocError` where a growth is refused.
-    pub fn find_on_line(
+    pub fn from_stop_if_whole_event_on_line(
         alloc: Global,
         lines: &'a Lines,
         settings: &'a Settings,

@@ -5,7 +5,7 @@ use crate::failure_site::FailureSite;
 use crate::mend::{Mend, MendEffect, Target};
 use crate::rewrite_packet::event_line_with_time;
 use crate::times::{
-    counted_from_later_base, event_line_with_time_prefix_of_other, single_moment_of,
+    event_line_with_time_prefix_of_other, shortened_by_span_if_relative, single_moment_of,
 };
 use crate::tokens::{Columns, octets_in_columns};
 use crate::try_mend::run_to_never_sent_packet_before_event;
@@ -56,7 +56,7 @@ pub fn find_gap_before_input_where_packet_left<'a>(
         let moment = single_moment_of(base, event.time).unwrap_or(base);
         clock = moment.max(clock);
         if sent.at < clock || (sent.at == clock && is_in_outbox_before_input(site, number, sent)?) {
-            return InputGap::before(site, number, base);
+            return InputGap::before_event_if_first_on_line(site, number, base);
         }
         base = moment;
     }
@@ -97,7 +97,7 @@ fn is_in_outbox_before_input(
 
 impl<'a> InputGap<'a> {
     /// The gap before an event of a site's script; nothing where that isn't the first on its line.
-    fn before(
+    fn before_event_if_first_on_line(
         site: &FailureSite<'a>,
         number: usize,
         base: u64,
@@ -116,7 +116,7 @@ impl<'a> InputGap<'a> {
         }
         let first = match line_number_if_event_on_one_line(site, number.saturating_sub(1))? {
             Some(last) if last < input.line => {
-                first_insertable_line(site.lines, last.saturating_add(1), input.line)
+                insertion_line_outside_block_comment(site.lines, last.saturating_add(1), input.line)
             }
             _ => input.line,
         };
@@ -135,15 +135,18 @@ impl<'a> InputGap<'a> {
     ) -> Result<Mend, AllocError> {
         let input = &self.input;
         let mut lines = LineList::new(input.alloc);
-        lines.push_unless_newline_inside(text)?;
+        lines.push_or_ignore_if_newline_inside(text)?;
         let target = match input.event.time {
             Time::Relative(_) if at > self.base => {
-                let time = counted_from_later_base(input.event.time, at.saturating_sub(self.base));
+                let time = shortened_by_span_if_relative(
+                    input.event.time,
+                    at.saturating_sub(self.base),
+                );
                 let own = event_line_with_time_prefix_of_other(
                     input,
                     event_line_with_time(input, time)?.as_slice(),
                 )?;
-                lines.push_unless_newline_inside(own.as_slice())?;
+                lines.push_or_ignore_if_newline_inside(own.as_slice())?;
                 Target::Retimed(input.line)
             }
             _ => Target::Before(self.first),
@@ -170,7 +173,7 @@ fn line_number_if_event_on_one_line(
 /// The first line after an event, or where a comment ends after it the line of the next event: no line goes into a comment.
 ///
 /// The lines are counted from 1.
-pub fn first_insertable_line(lines: &Lines, after: usize, next: usize) -> usize {
+pub fn insertion_line_outside_block_comment(lines: &Lines, after: usize, next: usize) -> usize {
     for line in after..next {
         if has_comment_end(lines.line(line).unwrap_or(&[])) {
             return next;

@@ -5,14 +5,16 @@ ghost use Rattle.pd_mend.specs.Mending.{takes_all_sent_packets_or_awaits_none, I
 
 use crate::event_line::EventLine;
 use crate::failure_site::FailureSite;
-use crate::input_gap::{find_gap_before_input_where_packet_left, first_insertable_line};
+use crate::input_gap::{
+    find_gap_before_input_where_packet_left, insertion_line_outside_block_comment,
+};
 use crate::line_mends::moved_or_styled_line_text_for_sent;
 use crate::mend::{Mend, MendEffect, Target};
 use crate::mend_state::MendState;
 use crate::times::edit_if_last_line_is_line_retimed;
 use crate::try_mend::{NEVER, text_with_line_for_never_sent_packet};
-use pd_explain::{Leftovers, find_leftovers_if_passes};
-use pd_run::{StopReason, run_to_failure_on_line};
+use pd_cause::{Leftovers, find_leftovers_if_passes};
+use pd_run::{StopReason, run_to_stop_on_line};
 use pd_script::{Action, Parsed, parse};
 use pd_seg::Sent;
 use pd_settings::Settings;
@@ -49,7 +51,7 @@ fn has_no_leftovers_or_awaits_none(found: &Option<Leftovers>) -> bool
 ///
 /// # Errors
 /// `AllocError` where a growth is refused.
-pub fn edit_adding_line_for_oldest_leftover(
+pub fn edit_placing_oldest_leftover_where_it_left(
     alloc: Global,
     text: &Lines,
     settings: &Settings,
@@ -57,7 +59,7 @@ pub fn edit_adding_line_for_oldest_leftover(
 ) -> Result<Option<LineEdit>, AllocError>
     ensures { IfOk result (λ found. IfSome found (λ edit. (edit.remove ≡ 0) ⊎ IsRetiming text.now edit)) }
 {
-    let line = line_after_last_event(alloc, text, &parse(alloc, text)?)?;
+    let line = line_after_last_event_or_text_end(alloc, text, &parse(alloc, text)?)?;
     if let Some(lines) = text_with_line_for_never_sent_packet(alloc, text, line)? {
         if let Some(mend) = find_and_note_mend_for_oldest_leftover(
             alloc, &lines, settings, line, mend_state,
@@ -66,7 +68,7 @@ pub fn edit_adding_line_for_oldest_leftover(
         }
     }
     let mut insert = LineList::new(alloc);
-    insert.push_unless_newline_inside(NEVER)?;
+    insert.push_or_ignore_if_newline_inside(NEVER)?;
     Ok(Some(LineEdit {
         from: line,
         remove: 0,
@@ -90,7 +92,7 @@ pub fn edit_if_mend_inserts_or_retimes(text: &Lines, mend: Mend) -> Option<LineE
 }
 
 /// The line after the last event of a text, where no comment that goes over lines is in the way.
-fn line_after_last_event(
+fn line_after_last_event_or_text_end(
     alloc: Global,
     text: &Lines,
     parsed: &Parsed,
@@ -98,7 +100,11 @@ fn line_after_last_event(
     let end = text.len().saturating_add(1);
     let number = parsed.events.len().saturating_sub(1);
     match EventLine::find_nth_event_if_on_one_line(alloc, text, parsed, number)? {
-        Some(last) => Ok(first_insertable_line(text, last.line.saturating_add(1), end)),
+        Some(last) => Ok(insertion_line_outside_block_comment(
+            text,
+            last.line.saturating_add(1),
+            end,
+        )),
         None => Ok(end),
     }
 }
@@ -112,10 +118,13 @@ fn find_and_note_mend_for_oldest_leftover(
     mend_state: &mut MendState,
 ) -> Result<Option<Mend>, AllocError> {
     let parsed = parse(alloc, lines)?;
-    let Some(stop) = run_to_failure_on_line(alloc, &parsed, settings, line)? else {
+    let Some(stop) = run_to_stop_on_line(alloc, &parsed, settings, line)? else {
         return Ok(None);
     };
-    let Some(site) = FailureSite::find_on_line(alloc, lines, settings, &parsed, &stop, line)? else {
+    let Some(site) = FailureSite::from_stop_if_whole_event_on_line(
+        alloc, lines, settings, &parsed, &stop, line,
+    )?
+    else {
         return Ok(None);
     };
     let StopReason::Differs(_, sent, run) = &stop.stop_reason else {
@@ -177,7 +186,7 @@ fn mend_inserting_in_style_of_event(
         return Ok(None);
     };
     let mut lines = LineList::new(site.alloc);
-    lines.push_unless_newline_inside(text.octets.as_slice())?;
+    lines.push_or_ignore_if_newline_inside(text.octets.as_slice())?;
     Ok(Some(Mend {
         target: Target::Before(site.line),
         lines,

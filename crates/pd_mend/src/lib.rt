@@ -3,7 +3,7 @@
 //! `mend_script` gives a `Mended` text, or why there is none (`MendError`). A `Mender` makes one
 //! mend after the other. A `FailureSite` is the event at which the run stopped, as it stands on its
 //! line; `find_mend_by_stop_reason` finds a `Mend` by which it holds, and
-//! `align_oldest_sent_packet_with_awaited` which awaited packet is which of those that were sent. `LineMap` gives the line of the given text from which each line comes.
+//! `relation_of_oldest_sent_to_first_awaited` which awaited packet is which of those that were sent. `LineMap` gives the line of the given text from which each line comes.
 //!
 //! ```text
 //!     text --run--> it passes and takes all packets, or awaits none ---------> Mended

@@ -6,7 +6,7 @@ use crate::mend::{Mend, MendEffect, Target};
 use crate::moved_lines::MovedLines;
 use crate::rewrite_packet::{PacketRewrite, event_line_with_time, rewrite_packet_fields};
 use crate::times::{
-    counted_from_later_base, relative_time_if_counted_from_earlier_base, single_moment_of,
+    relative_time_lengthened_by_span, shortened_by_span_if_relative, single_moment_of,
     time_like_other_or_any_before_base,
 };
 use crate::tokens::{Columns, octets_from, octets_in_columns};
@@ -37,7 +37,7 @@ pub enum Removal {
 /// `AllocError` where a growth is refused.
 pub fn mend_replacing_event_line_by_one(alloc: Global, octets: &[u8]) -> Result<Mend, AllocError> {
     let mut lines = LineList::new(alloc);
-    lines.push_unless_newline_inside(octets)?;
+    lines.push_or_ignore_if_newline_inside(octets)?;
     Ok(Mend {
         target: Target::Own,
         lines,
@@ -124,17 +124,17 @@ pub fn mend_inserting_packet_before_retimed_event(
         return Ok(None);
     };
     let mut lines = LineList::new(site.alloc);
-    let from = push_nonblank_text_before_event_as_line(&mut lines, site)?;
-    lines.push_unless_newline_inside(extra.octets.as_slice())?;
+    let from = push_preceding_text_returning_event_start(&mut lines, site)?;
+    lines.push_or_ignore_if_newline_inside(extra.octets.as_slice())?;
     match single_moment_of(base, extra.time) {
         Some(at) if at > base => {
             let own = event_line_with_time(
                 &site.own,
-                counted_from_later_base(site.own.event.time, at - base),
+                shortened_by_span_if_relative(site.own.event.time, at - base),
             )?;
-            lines.push_unless_newline_inside(octets_from(own.as_slice(), from))?;
+            lines.push_or_ignore_if_newline_inside(octets_from(own.as_slice(), from))?;
         }
-        _ => lines.push_unless_newline_inside(octets_from(site.octets(), from))?,
+        _ => lines.push_or_ignore_if_newline_inside(octets_from(site.octets(), from))?,
     }
     Ok(Some(Mend {
         target: Target::Own,
@@ -144,12 +144,12 @@ pub fn mend_inserting_packet_before_retimed_event(
 }
 
 /// Puts what is before the event on a line of its own, unless these are blanks; where the event's own line begins then.
-fn push_nonblank_text_before_event_as_line(
+fn push_preceding_text_returning_event_start(
     lines: &mut LineList,
     site: &FailureSite<'_>,
 ) -> Result<usize, AllocError> {
     if !site.own.is_first_on_line() {
-        lines.push_unless_newline_inside(site.own.octets_before().trim_ascii_end())?;
+        lines.push_or_ignore_if_newline_inside(site.own.octets_before().trim_ascii_end())?;
     }
     Ok(site.own.start_column_including_indent_if_first())
 }
@@ -163,12 +163,12 @@ pub fn mend_removing_event_or_commenting_it_out(
     removal: Removal,
 ) -> Result<Mend, AllocError> {
     let mut lines = LineList::new(site.alloc);
-    let from = push_nonblank_text_before_event_as_line(&mut lines, site)?;
+    let from = push_preceding_text_returning_event_start(&mut lines, site)?;
     if let Some(comment) = comment_left_of_removed_event_unless_gone(site, from, removal)? {
-        lines.push_unless_newline_inside(comment.as_slice())?;
+        lines.push_or_ignore_if_newline_inside(comment.as_slice())?;
     }
     if !site.own.is_last_besides_comment() {
-        lines.push_unless_newline_inside(site.own.octets_after().trim_ascii_start())?;
+        lines.push_or_ignore_if_newline_inside(site.own.octets_after().trim_ascii_start())?;
     }
     Ok(Mend {
         target: Target::Own,
@@ -237,7 +237,7 @@ impl FailureSite<'_> {
         else {
             return Ok(None);
         };
-        let Some(time) = relative_time_if_counted_from_earlier_base(
+        let Some(time) = relative_time_lengthened_by_span(
             follower.event.time,
             at.saturating_sub(base),
         ) else {

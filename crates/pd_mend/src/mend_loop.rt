@@ -55,7 +55,7 @@ pub fn mend_script(
 {
     let mut mender = Mender::new(alloc, lines.len(), drop, MovedLines::new(alloc))?;
     let first = mend_until_passed(alloc, lines, settings, &mut mender)?;
-    let moved_lines = mender.into_moved_lines(alloc)?;
+    let moved_lines = mender.into_lines_found_to_move(alloc)?;
     if moved_lines.is_empty() {
         return Ok(first);
     }
@@ -92,7 +92,7 @@ fn mend_until_passed(
                 events,
             });
         }
-        match mender.find_text_after_next_mend(alloc, &text, settings, verdict)? {
+        match mender.mend_next_failure_or_leftover(alloc, &text, settings, verdict)? {
             Some(next) => text = next,
             None => return Err(unmendable_error(text, verdict, mender)),
         }

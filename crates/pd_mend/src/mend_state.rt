@@ -43,7 +43,7 @@ impl MendState {
     ///
     /// # Errors
     /// `AllocError` where a growth is refused.
-    pub fn into_moved_lines(self, alloc: Global) -> Result<MovedLines, AllocError> {
+    pub fn into_lines_found_to_move(self, alloc: Global) -> Result<MovedLines, AllocError> {
         let MendState { move_log, .. } = self;
         move_log.pair_removed_lines_with_written_packets(alloc)
     }
@@ -142,7 +142,7 @@ impl MendState {
         sent: &Sent,
         has_own_line: bool,
     ) -> Result<(), AllocError> {
-        self.displaced.add_packet(sent.copy()?)?;
+        self.displaced.add_packet_written_by_mend(sent.copy()?)?;
         if has_own_line {
             self.moved_lines.mark_line_for_sent_as_written(sent);
         }
@@ -161,7 +161,9 @@ impl MendState {
         self.displaced.remove(site.alloc, packet)?;
         self.moved_lines
             .mark_line_of_packet_as_removed(site.alloc, packet)?;
-        self.move_log.note_removed_line(EventText::from_line_that_awaits_packet(&site.own, packet)?)
+        self.move_log.note_removed_line(EventText::from_event_line_and_its_packet(
+            &site.own, packet,
+        )?)
     }
 }
 

@@ -6,13 +6,15 @@ ghost use Rattle.pd_mend.specs.Mending.{IsPlaced, IsUnfinished, line_after, IsFo
 ghost use Rattle.pd_mend.specs.Inner.{IsChange, IsNext, IsUnmade};
 
 use crate::failure_site::FailureSite;
-use crate::leftovers::{edit_adding_line_for_oldest_leftover, edit_if_mend_inserts_or_retimes};
+use crate::leftovers::{
+    edit_if_mend_inserts_or_retimes, edit_placing_oldest_leftover_where_it_left,
+};
 use crate::line_map::LineMap;
 use crate::mend::{Mend, Target, find_mend_by_stop_reason};
 use crate::mend_error::MendError;
 use crate::mend_state::MendState;
 use crate::moved_lines::MovedLines;
-use pd_run::{StopPoint, Verdict, run_to_failure_on_line};
+use pd_run::{StopPoint, Verdict, run_to_stop_on_line};
 use pd_script::{Event, Parsed, parse};
 use pd_settings::Settings;
 use pd_text::{LineEdit, LineList, Lines, TextFault};
@@ -54,16 +56,16 @@ impl Mender {
     ///
     /// # Errors
     /// `AllocError` where a growth is refused.
-    pub fn into_moved_lines(self, alloc: Global) -> Result<MovedLines, AllocError> {
+    pub fn into_lines_found_to_move(self, alloc: Global) -> Result<MovedLines, AllocError> {
         let Mender { mend_state, .. } = self;
-        mend_state.into_moved_lines(alloc)
+        mend_state.into_lines_found_to_move(alloc)
     }
 
     /// The text after one more mend; nothing where none helps against its verdict.
     ///
     /// # Errors
     /// `TooLarge` where it would be over the limits of a text, and `OutOfMemory`.
-    pub fn find_text_after_next_mend(
+    pub fn mend_next_failure_or_leftover(
         &mut self,
         alloc: Global,
         text: &Lines,
@@ -107,7 +109,7 @@ impl Mender {
             Verdict::Fail(line, _) => self.find_edit_for_failure_at_line(
                 alloc, text, settings, line,
             ),
-            Verdict::Pass(_) => edit_adding_line_for_oldest_leftover(
+            Verdict::Pass(_) => edit_placing_oldest_leftover_where_it_left(
                 alloc,
                 text,
                 settings,
@@ -128,7 +130,7 @@ impl Mender {
         ensures { IfOk result (λ found. IfSome found (IsChange text.now (script_of text.now).events line)) }
     {
         let parsed = parse(alloc, text)?;
-        match run_to_failure_on_line(alloc, &parsed, settings, line)? {
+        match run_to_stop_on_line(alloc, &parsed, settings, line)? {
             Some(stop) => self.find_edit_for_event_stopped_at_line(
                 alloc, text, settings, &parsed, &stop, line,
             ),
@@ -148,7 +150,9 @@ impl Mender {
     ) -> Result<Option<LineEdit>, AllocError>
         ensures { IfOk result (λ found. IfSome found (IsChange text.now parsed.now.events line)) }
     {
-        match FailureSite::find_on_line(alloc, text, settings, parsed, stop, line)? {
+        match FailureSite::from_stop_if_whole_event_on_line(
+            alloc, text, settings, parsed, stop, line,
+        )? {
             Some(site) => self.find_failed_event_edit_noting_mend(&site),
             None => Ok(None),
         }

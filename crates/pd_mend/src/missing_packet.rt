@@ -1,10 +1,10 @@
 //! The mends of a packet that isn't sent in time.
 use crate::differences::Differences;
-use crate::expected_ahead::packets_awaited_before_next_input;
+use crate::expected_ahead::awaited_packets_and_next_input_moment;
 use crate::failure_site::FailureSite;
 use crate::line_mends::{Removal, mend_replacing_event_line_by_one};
 use crate::mend::{Mend, mend_rewriting_fields_that_differ};
-use crate::try_mend::{NEVER, run_text_to_failure_on_line};
+use crate::try_mend::{NEVER, stop_point_if_text_run_stops_on_line};
 use pd_run::{RunState, StopPoint, StopReason};
 use pd_seg::Sent;
 use pd_text::Lines;
@@ -95,7 +95,12 @@ fn find_packet_differing_on_event_line(
     site: &FailureSite<'_>,
     lines: &Lines,
 ) -> Result<Option<(Sent, RunState)>, AllocError> {
-    let Some(stop) = run_text_to_failure_on_line(site.alloc, lines, site.settings, site.line)?
+    let Some(stop) = stop_point_if_text_run_stops_on_line(
+        site.alloc,
+        lines,
+        site.settings,
+        site.line,
+    )?
     else {
         return Ok(None);
     };
@@ -113,7 +118,7 @@ fn judge_lateness_of_next_sent_packet(
     sent: &Sent,
     run: &RunState,
 ) -> Result<Lateness, AllocError> {
-    let ahead = packets_awaited_before_next_input(
+    let ahead = awaited_packets_and_next_input_moment(
         site.alloc,
         site.events_from_failed_one_on(),
         run.base(),

@@ -52,7 +52,7 @@ pub fn find_columns_of_packet_fields(event: &EventTokens, octets: &[u8]) -> Opti
 /// The number of the first token after the arrow that is a number.
 fn index_of_first_number_after_arrow(event: &EventTokens, arrow: usize) -> Option<usize> {
     for number in 0..event.tokens.len() {
-        if number > arrow && event.get(number)?.is_number() {
+        if number > arrow && event.get(number)?.is_integer_token() {
             return Some(number);
         }
     }
@@ -61,7 +61,7 @@ fn index_of_first_number_after_arrow(event: &EventTokens, arrow: usize) -> Optio
 
 fn columns_if_token_is_number(event: &EventTokens, number: usize) -> Option<Columns> {
     let token = event.get(number)?;
-    if token.is_number() {
+    if token.is_integer_token() {
         Some(token.columns)
     } else {
         None

@@ -32,19 +32,19 @@ pub fn is_in_time(time_range: Option<(u64, u64)>, at: u64, tolerance: u64) -> bo
 /// before the base, by more than a tolerance.
 pub fn time_like_other_or_any_before_base(like: Time, base: u64, at: u64, tolerance: u64) -> Time {
     match like {
-        _ if is_before_base(base, at, tolerance) => Time::Any,
+        _ if is_before_base_beyond_tolerance(base, at, tolerance) => Time::Any,
         Time::Absolute(_) | Time::AbsoluteRange(_, _) => Time::Absolute(at.max(base)),
         _ => Time::Relative(at.saturating_sub(base)),
     }
 }
 
 /// Whether a moment lies before a base by more than a tolerance.
-pub fn is_before_base(base: u64, at: u64, tolerance: u64) -> bool {
+pub fn is_before_base_beyond_tolerance(base: u64, at: u64, tolerance: u64) -> bool {
     at.saturating_add(tolerance) < base
 }
 
 /// A time that counts from a base so much earlier; nothing where it doesn't count from one.
-pub fn relative_time_if_counted_from_earlier_base(time: Time, span: u64) -> Option<Time> {
+pub fn relative_time_lengthened_by_span(time: Time, span: u64) -> Option<Time> {
     match time {
         Time::Relative(first) => Some(Time::Relative(first.saturating_add(span))),
         Time::RelativeRange(first, last) => Some(Time::RelativeRange(
@@ -56,7 +56,7 @@ pub fn relative_time_if_counted_from_earlier_base(time: Time, span: u64) -> Opti
 }
 
 /// The same from a base so much later, as far as it can.
-pub fn counted_from_later_base(time: Time, span: u64) -> Time {
+pub fn shortened_by_span_if_relative(time: Time, span: u64) -> Time {
     match time {
         Time::Relative(first) => Time::Relative(first.saturating_sub(span)),
         Time::RelativeRange(first, last) => {

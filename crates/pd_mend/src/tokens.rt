@@ -104,7 +104,7 @@ impl EventToken {
     }
 
     /// Whether it is a number in digits.
-    pub fn is_number(&self) -> bool {
+    pub fn is_integer_token(&self) -> bool {
         matches!(self.kind, TokenKind::Int)
     }
 

@@ -5,7 +5,7 @@ use crate::event_line::EventLine;
 use crate::failure_site::FailureSite;
 use crate::mend::{Mend, Target};
 use crate::mender::line_of_verdict_or_zero;
-use pd_run::{StopPoint, Verdict, run_all, run_to_failure_on_line};
+use pd_run::{StopPoint, Verdict, run_all, run_to_stop_on_line};
 use pd_script::{Parsed, parse};
 use pd_settings::Settings;
 use pd_text::{LineEdit, LineList, Lines, TextFault};
@@ -24,7 +24,7 @@ pub fn text_with_line_for_never_sent_packet(
     line: usize,
 ) -> Result<Option<Lines>, AllocError> {
     let mut insert = LineList::new(alloc);
-    insert.push_unless_newline_inside(NEVER)?;
+    insert.push_or_ignore_if_newline_inside(NEVER)?;
     let edit = LineEdit {
         from: line,
         remove: 0,
@@ -37,14 +37,14 @@ pub fn text_with_line_for_never_sent_packet(
 ///
 /// # Errors
 /// `AllocError` where a growth is refused.
-pub fn run_text_to_failure_on_line(
+pub fn stop_point_if_text_run_stops_on_line(
     alloc: Global,
     lines: &Lines,
     settings: &Settings,
     line: usize,
 ) -> Result<Option<StopPoint>, AllocError> {
     let parsed = parse(alloc, lines)?;
-    run_to_failure_on_line(alloc, &parsed, settings, line)
+    run_to_stop_on_line(alloc, &parsed, settings, line)
 }
 
 /// The run of a site's text at an event that is the first on its line, where a packet is awaited before it that is never sent.
@@ -68,7 +68,12 @@ pub fn run_to_never_sent_packet_before_event(
         return Ok(None);
     }
     match text_with_line_for_never_sent_packet(site.alloc, site.lines, event.line)? {
-        Some(lines) => run_text_to_failure_on_line(site.alloc, &lines, site.settings, event.line),
+        Some(lines) => stop_point_if_text_run_stops_on_line(
+            site.alloc,
+            &lines,
+            site.settings,
+            event.line,
+        ),
         None => Ok(None),
     }
 }
@@ -141,7 +146,7 @@ impl FailureSite<'_> {
     ) -> Result<usize, AllocError>
         requires { length parsed.now.events ≤ 4096 }
     {
-        match run_to_failure_on_line(self.alloc, parsed, self.settings, line)? {
+        match run_to_stop_on_line(self.alloc, parsed, self.settings, line)? {
             Some(stop) => Ok(parsed.events.len().saturating_sub(stop.passed)),
             None => Ok(usize::MAX),
         }

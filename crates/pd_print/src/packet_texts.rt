@@ -76,7 +76,7 @@ fn put_packet(out: &mut Vec<u8>, packet: &Packet) -> Result<(), AllocError>
     ensures { OnOk result (out.new.items ≡ out.old.items ++ packet_text packet.now) }
 {
     put_flags(out, packet.flags)?;
-    put_seq_range(out, packet)?;
+    put_start_end_and_length(out, packet)?;
     put_ack_and_win(out, packet)?;
     put_options(out, &packet.options)
 }
@@ -116,7 +116,7 @@ fn put_ack_point_or_dash(out: &mut Vec<u8>, flags: PacketFlags) -> Result<(), Al
 }
 
 /// Adds the start, the end and the length.
-pub fn put_seq_range(out: &mut Vec<u8>, packet: &Packet) -> Result<(), AllocError>
+pub fn put_start_end_and_length(out: &mut Vec<u8>, packet: &Packet) -> Result<(), AllocError>
     ensures { OnOk result (out.new.items ≡ out.old.items ++ octets_text packet.now) }
 {
     put_prefix_and_number(out, b" ", packet.start)?;

@@ -4,7 +4,7 @@ ghost use Rattle.pd_print.specs.Options.{options_text};
 ghost use Rattle.pd_print.specs.Packets.{flags_text, octets_text, numbered};
 
 use crate::option_texts::put_options;
-use crate::packet_texts::{put_flags, put_prefix_and_number_if_any, put_seq_range};
+use crate::packet_texts::{put_flags, put_prefix_and_number_if_any, put_start_end_and_length};
 use pd_script::Packet;
 use std::alloc::{AllocError, Global};
 
@@ -38,7 +38,7 @@ pub fn render_packet_parts(alloc: Global, packet: &Packet) -> Result<PacketParts
     let mut flags = Vec::new(alloc);
     put_flags(&mut flags, packet.flags)?;
     let mut octets = Vec::new(alloc);
-    put_seq_range(&mut octets, packet)?;
+    put_start_end_and_length(&mut octets, packet)?;
     let mut ack = Vec::new(alloc);
     put_prefix_and_number_if_any(&mut ack, b" ack ", packet.ack)?;
     let mut win = Vec::new(alloc);

@@ -2,7 +2,7 @@
 use Rattle.std.specs.Prelude.{◌≡◌, ℕ, Bool, List, Option, Some, None, option_map, if◌then◌else◌, map}
 use Rattle.std.specs.Borrow.{Bor}
 use Rattle.clap.specs.Words.{Text}
-use Rattle.pd_protocol.specs.OptionTable.{pdregress, settings_text, worker_count, cache_size, only_names, asks_steps, asks_explain, asks_json, asks_leftovers}
+use Rattle.pd_protocol.specs.OptionTable.{pdregress, settings_text, worker_count, cache_size, only_names, asks_steps, asks_rules, asks_explain, asks_json, asks_leftovers}
 use Rattle.pd_protocol.specs.declared.program_options.ExplainOptions.{ExplainOptions}
 use Rattle.pd_protocol.specs.declared.program_options.Options.{Options}
 
@@ -17,9 +17,10 @@ pub record Explaining : Type 0 where
   pub json : Bool
   pub leftovers : Bool
 
--- the report that is asked for of each finished job: its steps, and why it doesn't pass
+-- the report that is asked for of each finished job: its steps, the rules that its events come to, and why it doesn't pass
 pub record ReportOptions : Type 0 where
   pub steps : Bool
+  pub rules : Bool
   pub explain : Option Explaining
 
 -- how arguments have jobs explained
@@ -32,11 +33,11 @@ explaining_of options = record { only = names_of options.only.items; json = opti
 
 -- the report that arguments ask for
 abbrev pub report_options : List Text → ReportOptions
-report_options words = record { steps = asks_steps words; explain = if asks_explain words then Some (explaining words) else None }
+report_options words = record { steps = asks_steps words; rules = asks_rules words; explain = if asks_explain words then Some (explaining words) else None }
 
 -- the report that options ask for
 abbrev pub report_options_of : Options → ReportOptions
-report_options_of options = record { steps = options.steps; explain = option_map explaining_of options.explain }
+report_options_of options = record { steps = options.steps; rules = options.rules; explain = option_map explaining_of options.explain }
 
 -- these are chosen by arguments, of which the first is the program's own name
 abbrev pub HasChosen : List Text → Options → Type 0

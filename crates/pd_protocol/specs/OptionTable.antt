@@ -42,6 +42,13 @@ steps_rule = record (new_rule (codes "steps")) {
   action = Some SetTrue;
 }
 
+-- `--rules`
+abbrev pub rules_rule : Rule
+rules_rule = record (new_rule (codes "rules")) {
+  long = Some (codes "rules");
+  action = Some SetTrue;
+}
+
 -- `--explain`
 abbrev pub explain_rule : Rule
 explain_rule = record (new_rule (codes "explain")) {
@@ -74,8 +81,8 @@ leftovers_rule = record (new_rule (codes "leftovers")) {
 -- the program that runs scripts
 abbrev pub pdregress : App
 pdregress =
-    with_rule (with_rule (with_rule (with_rule (with_rule (with_rule (with_rule (with_rule (new_app (codes "pdregress"))
-    settings_rule) cache_rule) workers_rule) steps_rule) explain_rule) only_rule) json_rule) leftovers_rule
+    with_rule (with_rule (with_rule (with_rule (with_rule (with_rule (with_rule (with_rule (with_rule (new_app (codes "pdregress"))
+    settings_rule) cache_rule) workers_rule) steps_rule) rules_rule) explain_rule) only_rule) json_rule) leftovers_rule
 
 -- the text of an option among the arguments of a program, of which the first is its own name; an empty one where the program
 -- hasn't this option
@@ -128,9 +135,13 @@ is_option_given name words = is_some (first_of name (matches_of pdregress words)
 abbrev pub has_flag : List ℕ → List Text → Bool
 has_flag name words = bytes_eq (option_text pdregress name words) (codes "true")
 
--- arguments ask for each job's steps, for explanations, for these as JSON, and for what scripts that pass leave
+-- arguments ask for each job's steps, for the rules that it comes to, for explanations, for these as JSON, and for what scripts
+-- that pass leave
 abbrev pub asks_steps : List Text → Bool
 asks_steps words = has_flag (codes "steps") words
+
+abbrev pub asks_rules : List Text → Bool
+asks_rules words = has_flag (codes "rules") words
 
 abbrev pub asks_explain : List Text → Bool
 asks_explain words = has_flag (codes "explain") words
@@ -141,9 +152,9 @@ asks_json words = has_flag (codes "json") words
 abbrev pub asks_leftovers : List Text → Bool
 asks_leftovers words = has_flag (codes "leftovers") words
 
--- `--workers`, whatever its number, is beside `--steps` or `--explain`
+-- `--workers`, whatever its number, is beside `--steps`, `--rules` or `--explain`
 abbrev pub are_in_conflict : List Text → Bool
-are_in_conflict words = is_option_given (codes "workers") words && (asks_steps words || asks_explain words)
+are_in_conflict words = is_option_given (codes "workers") words && (asks_steps words || asks_rules words || asks_explain words)
 
 -- `--only`, `--json` or `--leftovers` is without `--explain`
 abbrev pub lack_explain : List Text → Bool

@@ -77,7 +77,10 @@ impl CommandLine {
     {
         match words {
             [name, lines] => match parse_count_of_at_most_six_digits(lines) {
-                Some(lines) => Ok(CommandLine::Add(copy_octets_as_name(alloc, name)?, lines)),
+                Some(lines) => Ok(CommandLine::Add(
+                    copy_octets_as_unchecked_name(alloc, name)?,
+                    lines,
+                )),
                 None => Ok(CommandLine::Bad),
             },
             _ => Ok(CommandLine::Bad),
@@ -90,7 +93,12 @@ impl CommandLine {
         match words {
             [name, from, remove, lines] => match parse_edit_numbers(from, remove, lines) {
                 Some((from, remove, lines)) => {
-                    Ok(CommandLine::Edit(copy_octets_as_name(alloc, name)?, from, remove, lines))
+                    Ok(CommandLine::Edit(
+                        copy_octets_as_unchecked_name(alloc, name)?,
+                        from,
+                        remove,
+                        lines,
+                    ))
                 }
                 None => Ok(CommandLine::Bad),
             },
@@ -102,7 +110,7 @@ impl CommandLine {
         ensures { IfOk result (λ command_line. command_line ≡ removes (map (λ w. w.now) words.now)) }
     {
         match words {
-            [name] => Ok(CommandLine::Remove(copy_octets_as_name(alloc, name)?)),
+            [name] => Ok(CommandLine::Remove(copy_octets_as_unchecked_name(alloc, name)?)),
             _ => Ok(CommandLine::Bad),
         }
     }
@@ -112,7 +120,7 @@ impl CommandLine {
     {
         match words {
             [key, word] => Ok(CommandLine::Set(
-                copy_octets_as_name(alloc, key)?,
+                copy_octets_as_unchecked_name(alloc, key)?,
                 parse_setting_number_boolean_or_word(word),
             )),
             _ => Ok(CommandLine::Bad),
@@ -160,7 +168,7 @@ fn words(alloc: Global, line: &[u8]) -> Result<Vec<&[u8]>, AllocError>
 }
 
 /// A name of its own with these octets.
-fn copy_octets_as_name(alloc: Global, octets: &[u8]) -> Result<Name, AllocError>
+fn copy_octets_as_unchecked_name(alloc: Global, octets: &[u8]) -> Result<Name, AllocError>
     ensures { IfOk result (λ name. name ≡ octets.now) }
 {
     let mut own = Vec::new(alloc);

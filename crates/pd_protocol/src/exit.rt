@@ -5,7 +5,7 @@ ghost use Rattle.pd_protocol.specs.ProgramFaults.{fault_line, line_of};
 ghost use Rattle.pd_protocol.specs.WriterOutput.{WritesTo};
 
 use crate::faults::ServeFault;
-use crate::output_stream::try_write;
+use crate::output_stream::write_all_or_false;
 use crate::program_faults::ProgramFault;
 use clap::Error;
 use clap::error::ErrorKind;
@@ -25,7 +25,7 @@ pub struct Exit {
 pub const FAULT_STATUS: u8 = 2;
 
 /// Writes `clap`'s message on arguments that it refuses to the program of this name.
-pub fn write_clap_error_and_return_fault_exit<E: Write>(
+pub fn write_clap_error_to_err_and_return_fault_exit<E: Write>(
     alloc: Global,
     program: &str,
     error: &Error,
@@ -37,7 +37,7 @@ pub fn write_clap_error_and_return_fault_exit<E: Write>(
 {
     if error.kind() != ErrorKind::OutOfMemory {
         if let Ok(text) = format!(in alloc; "{error}") {
-            let stderr_ok = try_write(err, text.as_bytes());
+            let stderr_ok = write_all_or_false(err, text.as_bytes());
             return Exit {
                 status: FAULT_STATUS,
                 stderr_ok,
@@ -56,7 +56,7 @@ pub fn write_fault_and_return_fault_exit<E: Write>(
     ensures status { result.status ≡ 2 }
     ensures stderr { WritesTo result.stderr_ok (E.contents err.old) (E.contents err.new) (fault_line program.now fault) }
 {
-    let stderr_ok = try_write_line_after_program_name(program, err, fault.number_and_name());
+    let stderr_ok = write_line_after_program_name_or_false(program, err, fault.number_and_name());
     Exit {
         status: FAULT_STATUS,
         stderr_ok,
@@ -64,21 +64,21 @@ pub fn write_fault_and_return_fault_exit<E: Write>(
 }
 
 /// Writes a text after the name of a program, as a line.
-pub(crate) fn try_write_line_after_program_name<E: Write>(
+pub(crate) fn write_line_after_program_name_or_false<E: Write>(
     program: &str,
     err: &mut E,
     text: &str,
 ) -> bool
     ensures { WritesTo result (E.contents err.old) (E.contents err.new) (line_of program.now text.now) }
 {
-    if !try_write(err, program.as_bytes()) {
+    if !write_all_or_false(err, program.as_bytes()) {
         return false;
     }
-    if !try_write(err, b": ") {
+    if !write_all_or_false(err, b": ") {
         return false;
     }
-    if !try_write(err, text.as_bytes()) {
+    if !write_all_or_false(err, text.as_bytes()) {
         return false;
     }
-    try_write(err, b"\n")
+    write_all_or_false(err, b"\n")
 }

@@ -1,4 +1,4 @@
-//! Why serving stops.
+//! Why serving stops: faults, each printed as its number and name.
 ghost use Rattle.std.specs.Prelude.{◌≡◌};
 ghost use Rattle.pd_protocol.specs.ServeFaults.{serve_fault_text};
 

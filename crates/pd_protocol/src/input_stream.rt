@@ -1,4 +1,4 @@
-//! Readers of which it is known whether a read has failed.
+//! Readers of which it may be known whether a read has failed: standard input, files and octets in memory.
 use std::fs::File;
 use std::io;
 use std::io::{Read, Stdin};

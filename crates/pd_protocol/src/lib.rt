@@ -4,7 +4,7 @@
 //! `settings_from_toml` reads the text of the settings. An `LineReader` takes lines off a reader
 //! (`InputStream`) block by block, and `next_command` takes the next `Command`. A `ServeFault` or a
 //! `ProgramFault` says why a program stops; `write_fault_and_return_fault_exit` and
-//! `write_clap_error_and_return_fault_exit` write it and give the `Exit`.
+//! `write_clap_error_to_err_and_return_fault_exit` write it and give the `Exit`.
 //!
 //! The commands of an input are defined on its octets alone, however its reader cuts them: `commands`
 //! (specs/Commands.antt). Arguments are taken exactly as `clap`'s own clauses take them: `HasChosen`
@@ -42,14 +42,15 @@ mod verdicts;
 
 pub use command::{Command, next_command, text_of_lines_or_none_if_over_limits};
 pub use exit::{
-    Exit, FAULT_STATUS, write_clap_error_and_return_fault_exit, write_fault_and_return_fault_exit,
+    Exit, FAULT_STATUS, write_clap_error_to_err_and_return_fault_exit,
+    write_fault_and_return_fault_exit,
 };
 pub use faults::ServeFault;
 pub use input_stream::InputStream;
 pub use line_reader::{LineReader, NextLine, without_carriage_return};
 pub use option_table::toml_settings_text_option;
-pub use output_stream::{try_write, write_all_without_flush};
-pub use parse_options::{clap_error_for_conflicting_arguments, is_word_true, options};
+pub use output_stream::{write_all_or_false, write_all_without_flush};
+pub use parse_options::{clap_error_for_arguments_already_refused, is_word_true, options};
 pub use program_arguments::{arguments, write_arguments_unreadable_and_return_exit};
 pub use program_faults::ProgramFault;
 pub use program_options::{ExplainOptions, Options};

@@ -1,4 +1,4 @@
-//! Lines off the front of a reader, which is read a block at a time.
+//! Lines off the front of a reader, which is handed in with each call and read a block at a time.
 ghost use Rattle.std.specs.Prelude.{◌≡◌, ◌⊎◌, ◌+◌, ◌≤◌, ◌<◌, ◌++◌, [], ℕ, List, length, take, drop, true, OnOk, IfOk, IfErr, IfSome, IfNone, if◌then◌else◌};
 ghost use Rattle.std.specs.Bool.{OnTrue, OnFalse};
 ghost use Rattle.std.specs.Io.KnownBytes.{Consumes, IsAtEnd};

@@ -1,7 +1,7 @@
 //! The options that the program takes, and the text of its `--help`.
 ghost use Rattle.std.specs.Prelude.{false, codes, ◌≡◌, IfOk, IfErr};
 ghost use Rattle.clap.specs.Words.{app_of, kind_of, new_app, rule_of, with_rule};
-ghost use Rattle.pd_protocol.specs.OptionTable.{pdregress, settings_rule, cache_rule, workers_rule, steps_rule, explain_rule, only_rule, json_rule, leftovers_rule};
+ghost use Rattle.pd_protocol.specs.OptionTable.{pdregress, settings_rule, cache_rule, workers_rule, steps_rule, rules_rule, explain_rule, only_rule, json_rule, leftovers_rule};
 
 use clap::error::ErrorKind;
 use clap::{Arg, ArgAction, Command, Error, value_parser};
@@ -53,6 +53,7 @@ fn add_options_beyond_settings_and_cache<'a>(
     command
         .arg(workers_option(alloc))?
         .arg(step_counts_on_stderr_flag(alloc))?
+        .arg(met_rules_on_stderr_flag(alloc))?
         .arg(explain_failures_flag(alloc))?
         .arg(repeatable_only_name_option(alloc))?
         .arg(json_option(alloc))?
@@ -61,24 +62,25 @@ fn add_options_beyond_settings_and_cache<'a>(
 
 /// The options that may be written together. Where `--workers` may be beside all of them, `clap` asks for `--explain` beside
 /// it too.
-pub(crate) fn command_with_conflicts<'a>(
+pub(crate) fn command_with_conflicts_and_requirements<'a>(
     alloc: Global,
     are_workers_apart: bool,
 ) -> Result<Command<'a>, Error> {
     let command = command_with_settings_and_cache(alloc)?;
     let mut options = Vec::new(alloc);
-    push_options_beyond_settings_and_cache(alloc, &mut options, are_workers_apart)?;
+    push_options_with_conflicts_and_requirements(alloc, &mut options, are_workers_apart)?;
     Ok(command.args(options)?)
 }
 
 /// Adds each other option, with what it may be beside.
-fn push_options_beyond_settings_and_cache<'a>(
+fn push_options_with_conflicts_and_requirements<'a>(
     alloc: Global,
     options: &mut Vec<Arg<'a>>,
     are_workers_apart: bool,
 ) -> Result<(), AllocError> {
-    options.push(workers_option_with_conflicts(alloc, are_workers_apart)?)?;
+    options.push(workers_option_with_conflicts_if_asked(alloc, are_workers_apart)?)?;
     options.push(step_counts_on_stderr_flag(alloc))?;
+    options.push(met_rules_on_stderr_flag(alloc))?;
     options.push(explain_failures_flag(alloc))?;
     options.push(repeatable_only_name_option(alloc).requires_arg("explain")?)?;
     options.push(json_option(alloc).requires_arg("explain")?)?;
@@ -87,13 +89,16 @@ fn push_options_beyond_settings_and_cache<'a>(
 }
 
 /// `--workers N`, with the options that may be beside it.
-fn workers_option_with_conflicts<'a>(
+fn workers_option_with_conflicts_if_asked<'a>(
     alloc: Global,
     are_workers_apart: bool,
 ) -> Result<Arg<'a>, AllocError> {
     let workers = workers_option(alloc);
     if are_workers_apart {
-        workers.conflicts_with("steps")?.conflicts_with("explain")
+        workers
+            .conflicts_with("steps")?
+            .conflicts_with("rules")?
+            .conflicts_with("explain")
     } else {
         Ok(workers)
     }
@@ -162,6 +167,16 @@ fn step_counts_on_stderr_flag<'a>(alloc: Global) -> Arg<'a>
     Arg::new(alloc, "steps")
         .long("steps")
         .help("Writes on standard error how many steps each run took")
+        .action(ArgAction::SetTrue)
+}
+
+fn met_rules_on_stderr_flag<'a>(alloc: Global) -> Arg<'a>
+    ensures rule { rule_of result ≡ rules_rule }
+    ensures local { result.global ≡ false }
+{
+    Arg::new(alloc, "rules")
+        .long("rules")
+        .help("Writes on standard error which rules of the sender each event of a script comes to")
         .action(ArgAction::SetTrue)
 }
 

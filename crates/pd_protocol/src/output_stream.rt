@@ -28,7 +28,7 @@ pub fn write_all_without_flush<W: Write>(writer: &mut W, octets: &[u8]) -> Resul
 }
 
 /// Says octets; false where the writer didn't take all.
-pub fn try_write<E: Write>(err: &mut E, octets: &[u8]) -> bool
+pub fn write_all_or_false<E: Write>(err: &mut E, octets: &[u8]) -> bool
     ensures { WritesTo result (E.contents err.old) (E.contents err.new) octets.now }
 {
     write_all_without_flush(err, octets).is_ok()

@@ -5,7 +5,7 @@ ghost use Rattle.pd_protocol.specs.ChosenOptions.{explaining_of, names_of, repor
 ghost use Rattle.pd_protocol.specs.OptionTable.{pdregress, without_sign, worker_count_or_zero, cache_size_in_range_or_64, is_option_given, has_flag, are_in_conflict, lack_explain, refusals};
 
 use crate::numbers::parse_number;
-use crate::option_table::{command_with_conflicts, command_without_conflicts};
+use crate::option_table::{command_with_conflicts_and_requirements, command_without_conflicts};
 use crate::program_options::{ExplainOptions, Options};
 use clap::error::ErrorKind;
 use clap::{ArgMatches, Command, Error};
@@ -27,15 +27,18 @@ pub fn options<'a, S: AsStr>(alloc: Global, words: &'a [S]) -> Result<Options<'a
     let command = command_without_conflicts(alloc)?;
     let matches = command.try_get_matches_from(words)?;
     if are_options_conflicting_or_lacking_explain(&matches) {
-        let with_conflicts = command_with_conflicts(alloc, has_workers_conflict(&matches));
-        return Err(clap_error_for_conflicting_arguments(with_conflicts, words));
+        let with_conflicts = command_with_conflicts_and_requirements(
+            alloc,
+            has_workers_conflict(&matches),
+        );
+        return Err(clap_error_for_arguments_already_refused(with_conflicts, words));
     }
     Ok(chosen_options(alloc, &matches)?)
 }
 
 /// The error with which `clap` refuses arguments of which it takes each by itself, by a command that knows which options go together; or
 /// why there is no such command.
-pub fn clap_error_for_conflicting_arguments<'a, S: AsStr>(
+pub fn clap_error_for_arguments_already_refused<'a, S: AsStr>(
     command: Result<Command<'a>, Error>,
     arguments: &'a [S],
 ) -> Error {
@@ -79,7 +82,9 @@ fn has_workers_conflict(matches: &ArgMatches<'_>) -> bool
     ensures { (words : List Text) → HasMatchesOf pdregress words matches.now → result ≡ are_in_conflict words }
 {
     is_option_given(matches, "workers")
-        && (has_flag(matches, "steps") || has_flag(matches, "explain"))
+        && (has_flag(matches, "steps")
+            || has_flag(matches, "rules")
+            || has_flag(matches, "explain"))
 }
 
 /// Whether an option is without `--explain`, to which it belongs.
@@ -119,6 +124,7 @@ fn chosen_options<'a>(alloc: Global, matches: &ArgMatches<'a>) -> Result<Options
         workers: worker_count_or_zero(matches.get_str("workers").unwrap_or("").as_bytes()),
         cache: cache_size_in_range_or_64(matches.get_str("cache").unwrap_or("").as_bytes()),
         steps: has_flag(matches, "steps"),
+        rules: has_flag(matches, "rules"),
         explain,
     })
 }

@@ -5,7 +5,7 @@ ghost use Rattle.pd_protocol.specs.ProgramFaults.{fault_line, line_of};
 ghost use Rattle.pd_protocol.specs.WriterOutput.{WritesTo};
 
 use crate::exit::{
-    Exit, FAULT_STATUS, try_write_line_after_program_name, write_fault_and_return_fault_exit,
+    Exit, FAULT_STATUS, write_fault_and_return_fault_exit, write_line_after_program_name_or_false,
 };
 use crate::faults::ServeFault;
 use crate::program_faults::ProgramFault;
@@ -41,7 +41,7 @@ pub fn write_arguments_unreadable_and_return_exit<E: Write>(
             ProgramFault::Serving(ServeFault::OutOfMemory),
         );
     }
-    let stderr_ok = try_write_line_after_program_name(
+    let stderr_ok = write_line_after_program_name_or_false(
         program,
         err,
         "the arguments can't be read as text",

@@ -1,4 +1,4 @@
-//! Why the program stops.
+//! Why the program stops: faults of its settings text or of serving, each printed as its number and name.
 ghost use Rattle.std.specs.Prelude.{◌≡◌};
 ghost use Rattle.pd_protocol.specs.ProgramFaults.{fault_text};
 

@@ -11,6 +11,8 @@ pub struct Options<'a> {
     pub cache: usize,
     /// Whether a line on standard error gives each finished job's number of steps.
     pub steps: bool,
+    /// Whether lines on standard error give the rules of the sender that each finished job's events come to.
+    pub rules: bool,
     /// Which scripts that don't pass are explained on standard error, and how; where it is `None`, none are.
     pub explain: Option<ExplainOptions<'a>>,
 }

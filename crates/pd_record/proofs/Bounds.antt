@@ -10,7 +10,7 @@ use Rattle.pd_host.specs.Expiries.{deadline_of}
 use Rattle.pd_run.specs.Laws.{IsUnderway}
 use Rattle.pd_run.specs.Limits.{is_long, written_times}
 use Rattle.pd_run.specs.Step.{RunStateView}
-use Rattle.pd_run.specs.Times.{single_moment_or_base, base_after_expected_packet}
+use Rattle.pd_run.specs.Times.{single_moment_or_base, base_from_moment_or_later_of_base_and_sent}
 use Rattle.pd_record.specs.Recorder.{RecorderView, refusal_if_over_event_or_gap_limit, with_unmet}
 use Rattle.pd_record.specs.Inner.{Sound, IsReached}
 use Rattle.pd_record.specs.declared.record_error.RecordError.TheVariants.{TooManyEvents, TooLongGap}
@@ -30,8 +30,8 @@ not_refused t at = go (nat_le 4096 t.count) (nat_lt 3600000000 (at - t.run.base)
         (few, omega arith)
 
 -- so its moment is within reach
-pub is_reached : (t : RecorderView) (at : ℕ) → Sound t → refusal_if_over_event_or_gap_limit t at ≡ None → IsReached at
-is_reached t at sound h =
+pub await_count_or_note_late : (t : RecorderView) (at : ℕ) → Sound t → refusal_if_over_event_or_gap_limit t at ≡ None → IsReached at
+await_count_or_note_late t at sound h =
     let within = not_refused t at h in
     omega (arith, within.0, within.1, sound.run.base)
 
@@ -59,7 +59,7 @@ moment_within base (RelativeRange first last) h = omega arith
 
 -- so the base stays within reach
 pub base_within : (base at : ℕ) (time : Time) → list_any is_long (written_times time) ≡ false
-    → base_after_expected_packet base time at ≤ max (base + 3600000000) at
+    → base_from_moment_or_later_of_base_and_sent base time at ≤ max (base + 3600000000) at
 base_within base at Any h = omega arith
 base_within base at (Absolute t) h = let m = moment_within base (Absolute t) h in omega (arith, m)
 base_within base at (Relative t) h = let m = moment_within base (Relative t) h in omega (arith, m)

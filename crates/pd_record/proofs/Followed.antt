@@ -27,7 +27,7 @@ use Rattle.pd_run.specs.InboundSegment.{segment_in}
 use Rattle.pd_run.specs.Run.{start_of, on_script, verdict_from}
 use Rattle.pd_run.specs.Step as run
 use Rattle.pd_run.specs.Step.{RunStateView, tolerance_of, comparison_noted, on_step, acted, on_arrival, on_answer, answers, step}
-use Rattle.pd_run.specs.Times.{single_moment_or_base, time_range_of, is_not_too_late_within_tolerance, base_after_expected_packet}
+use Rattle.pd_run.specs.Times.{single_moment_or_base, time_range_of, is_not_too_late_within_tolerance, base_from_moment_or_later_of_base_and_sent}
 use Rattle.pd_run.specs.StopReason.{verdict_at, verdict_by_step, stop_reason}
 use Rattle.pd_run.specs.declared.verdict.Verdict.{Verdict}
 use Rattle.pd_run.specs.declared.verdict.Verdict.TheVariants.{Pass, Syntax}
@@ -109,7 +109,7 @@ oldest_met r s t x ws e p y f h k = go m.1.waits
         subst (Goes r s (x ∷ ws) e (Outbound p)) its (record {
           later = ws;
           follows = record {
-            base = ap (λ (b : ℕ). base_after_expected_packet b e.time x.at) f.base ∙ (ap (λ (z : Sent). base_after_expected_packet r.base e.time z.at) (sym same) ∙ sym m.1.base);
+            base = ap (λ (b : ℕ). base_from_moment_or_later_of_base_and_sent b e.time x.at) f.base ∙ (ap (λ (z : Sent). base_from_moment_or_later_of_base_and_sent r.base e.time z.at) (sym same) ∙ sym m.1.base);
             clock = f.clock ∙ sym a.1;
             unmet = refl;
             state = m.1.state ∙ ap without_first (a.0 ∙ f.state);
@@ -169,7 +169,7 @@ module _ (laws : Bases) where
       subst (Goes r s [] e (Outbound p)) its (record {
         later = [];
         follows = record {
-          base = ap (λ (z : ℕ). base_after_expected_packet z e.time sent.at) f.base ∙ sym m.1.base;
+          base = ap (λ (z : ℕ). base_from_moment_or_later_of_base_and_sent z e.time sent.at) f.base ∙ sym m.1.base;
           clock = alike.1;
           unmet = f.unmet;
           state = m.1.state ∙ (ap without_first (sym alike.0) ∙ sym n.1.state);

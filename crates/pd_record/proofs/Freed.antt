@@ -10,13 +10,15 @@ use Rattle.pd_recover.specs.declared.next_segment.NextSegment.{NextSegment}
 use Rattle.pd_seg.specs.declared.sack_spans.Span.{Span}
 use Rattle.pd_seg.specs.declared.segments.Segment.{Segment}
 use Rattle.pd_seg.specs.declared.segments.Sent.{Sent}
-use Rattle.pd_host.specs.AckEffects.{OnTheWay, octets_of, fill_noted_on, sent_as, one_filled, sender_of, pipe_of, filled, push_data_segment_to_outbox, entered_on, entry, after_ack_action, taking, ack_taken}
+use Rattle.pd_seg.specs.declared.send_rule.SendRule.{SendRule}
+use Rattle.pd_seg.specs.declared.send_rule.SendRule.TheVariants.{LimitedTransmit as LimitedBy3042, FastRetransmit as FastBy5681, SackFastRetransmit}
+use Rattle.pd_host.specs.AckEffects.{fill_rule, OnTheWay, octets_of, fill_noted_on, sent_as, one_filled, sender_of, pipe_of, filled, push_data_segment_to_outbox, entered_on, entry, after_ack_action, taking, ack_taken}
 use Rattle.pd_host.specs.Connection.{ConnectionView}
-use Rattle.pd_host.specs.Expiries.{advanced, deadline_of, due_by, expired, segment_again, connection_expired}
+use Rattle.pd_host.specs.Expiries.{expiry_rule, advanced, deadline_of, due_by, expired, segment_again, connection_expired}
 use Rattle.pd_host.specs.Packets.{data_of}
 use Rattle.pd_host.specs.OutboxLimit.{has_place}
 use Rattle.pd_host.specs.Host.{beside, with_outbox, then_on}
-use Rattle.pd_host.specs.Sending.{on_found, repeated, places_left, with_packet_sent, with_begun_connection, with_next_past_sacked, sent_on, with_segment, sent_ordinarily, ready, sent_until_done, ordinary}
+use Rattle.pd_host.specs.Sending.{ordinary_rule, on_found, repeated, places_left, with_packet_sent, with_begun_connection, with_next_past_sacked, sent_on, with_segment, sent_ordinarily, ready, sent_until_done, ordinary}
 use Rattle.pd_host.specs.SendingLaws.{SendsOneByOne}
 use Rattle.pd_host.specs.RttSegment.{timing_started}
 use Rattle.pd_host.specs.declared.endpoint.Endpoint.{Endpoint}
@@ -117,9 +119,9 @@ fewer w s =
     omega (arith, many)
 
 -- one packet more is after all of them
-pub packet_freed : (w : List Sent) (now : ℕ) (segment : Segment) (s : SenderState) → with_packet_sent now segment (in_front w s) ≡ in_front w (with_packet_sent now segment s)
-packet_freed w now segment s =
-    let packet : Sent = record { segment = segment; at = now } in
+pub packet_freed : (w : List Sent) (now : ℕ) (rule : SendRule) (segment : Segment) (s : SenderState) → with_packet_sent now rule segment (in_front w s) ≡ in_front w (with_packet_sent now rule segment s)
+packet_freed w now rule segment s =
+    let packet : Sent = record { segment = segment; at = now; rule = rule } in
     ap (λ (l : List Sent). record s { endpoint = record s.endpoint { outbox = l } }) (append_assoc w s.endpoint.outbox (packet ∷ []))
 
 -- ---- ordinary sending
@@ -127,7 +129,7 @@ packet_freed w now segment s =
 sent_freed : (w : List Sent) (now : ℕ) (segment : Span) (o : Option ConnectionView) (s : SenderState)
     → sent_ordinarily now segment o (in_front w s) ≡ in_front w (sent_ordinarily now segment o s)
 sent_freed w now segment None s = refl
-sent_freed w now segment (Some c) s = packet_freed w now (data_of c segment) (with_begun_connection (with_next_past_sacked (sent_on now segment c)) s)
+sent_freed w now segment (Some c) s = packet_freed w now (ordinary_rule c) (data_of c segment) (with_begun_connection (with_next_past_sacked (sent_on now segment c)) s)
 
 until_done_freed : (w : List Sent) (now : ℕ) (s : SenderState) → CameBy (in_front w) (sent_until_done now (in_front w s)) (sent_until_done now s)
 until_done_freed w now s =
@@ -154,7 +156,7 @@ fill_freed : (w : List Sent) (now : ℕ) (filling : WindowFill) (sent : NextSegm
 fill_freed w now filling sent None t = refl
 fill_freed w now filling sent (Some c) t =
     let after : SenderState = with_begun_connection (fill_noted_on filling sent (sent_as now sent c) c.established) t.0 in
-    ap (λ (u : SenderState). (u, t.1 + octets_of (segment_of sent))) (packet_freed w now (data_of c (segment_of sent)) after)
+    ap (λ (u : SenderState). (u, t.1 + octets_of (segment_of sent))) (packet_freed w now (fill_rule filling sent) (data_of c (segment_of sent)) after)
 
 sender_freed : (w : List Sent) (r q : Result OnTheWay Halt) → CameBy (in_front_too w) r q → CameBy (in_front w) (sender_of r) (sender_of q)
 sender_freed w (Ok t) q h = (h.0.0, ap sender_of h.1, ap (λ (u : OnTheWay). u.0) h.2)
@@ -170,12 +172,12 @@ filled_freed w now filling s =
 
 -- ---- the effects of an ACK
 
-put_freed : (w : List Sent) (now : ℕ) (segment : Span) (before after : ConnectionView) (s : SenderState)
-    → CameBy (in_front w) (push_data_segment_to_outbox now segment before after (in_front w s)) (push_data_segment_to_outbox now segment before after s)
-put_freed w now segment before after s =
+put_freed : (w : List Sent) (now : ℕ) (rule : SendRule) (segment : Span) (before after : ConnectionView) (s : SenderState)
+    → CameBy (in_front w) (push_data_segment_to_outbox now rule segment before after (in_front w s)) (push_data_segment_to_outbox now rule segment before after s)
+put_freed w now rule segment before after s =
     guarded_by (in_front w) (has_place (w ++ s.endpoint.outbox)) (has_place s.endpoint.outbox)
-    (with_segment now segment before after (in_front w s)) (with_segment now segment before after s)
-    (roomy w s.endpoint.outbox) (packet_freed w now (data_of before segment) (with_begun_connection after s))
+    (with_segment now rule segment before after (in_front w s)) (with_segment now rule segment before after s)
+    (roomy w s.endpoint.outbox) (packet_freed w now rule (data_of before segment) (with_begun_connection after s))
 
 entry_freed : (w : List Sent) (now : ℕ) (c : ConnectionView) (s : SenderState) → CameBy (in_front w) (entry now c (in_front w s)) (entry now c s)
 entry_freed w now c s =
@@ -183,8 +185,8 @@ entry_freed w now c s =
     let sent : ConnectionView = entered_on segment (timing_started now segment c) c.established in
     let moved : SenderState = with_begun_connection (entered_on segment c c.established) s in
     either_by (in_front w) (nat_lt segment.start segment.end)
-    (push_data_segment_to_outbox now segment c sent (in_front w s)) (Ok (in_front w moved)) (push_data_segment_to_outbox now segment c sent s) (Ok moved)
-    (put_freed w now segment c sent s) (moved, refl, refl)
+    (push_data_segment_to_outbox now SackFastRetransmit segment c sent (in_front w s)) (Ok (in_front w moved)) (push_data_segment_to_outbox now SackFastRetransmit segment c sent s) (Ok moved)
+    (put_freed w now SackFastRetransmit segment c sent s) (moved, refl, refl)
 
 led_to_freed : (w : List Sent) (now : ℕ) (c : ConnectionView) (s : SenderState) (next : AckAction) → CameBy (in_front w) (after_ack_action now c (in_front w s) next) (after_ack_action now c s next)
 led_to_freed w now c s Ordinary = ordinary_freed w now s
@@ -192,10 +194,10 @@ led_to_freed w now c s StepC = filled_freed w now NextSeg s
 led_to_freed w now c s Entry =
     then_by (in_front w) (in_front w) (filled now NextSeg) (entry now c (in_front w s)) (entry now c s) (entry_freed w now c s) (λ t. filled_freed w now NextSeg t)
 led_to_freed w now c s LimitedTransmit = filled_freed w now NewData s
-led_to_freed w now c s (NewSegment segment) = put_freed w now segment c (sent_on now segment c) s
+led_to_freed w now c s (NewSegment segment) = put_freed w now LimitedBy3042 segment c (sent_on now segment c) s
 led_to_freed w now c s (FastRetransmit segment) =
-    then_by (in_front w) (in_front w) (ordinary now) (push_data_segment_to_outbox now segment c (timing_started now segment c) (in_front w s)) (push_data_segment_to_outbox now segment c (timing_started now segment c) s)
-    (put_freed w now segment c (timing_started now segment c) s) (λ t. ordinary_freed w now t)
+    then_by (in_front w) (in_front w) (ordinary now) (push_data_segment_to_outbox now FastBy5681 segment c (timing_started now segment c) (in_front w s)) (push_data_segment_to_outbox now FastBy5681 segment c (timing_started now segment c) s)
+    (put_freed w now FastBy5681 segment c (timing_started now segment c) s) (λ t. ordinary_freed w now t)
 led_to_freed w now c s Nothing = (s, refl, refl)
 
 pub taken_freed : (w : List Sent) (now : ℕ) (segment : Segment) (c : ConnectionView) (s : SenderState) (o : Option Established)
@@ -230,7 +232,7 @@ expire at s = expired at s.endpoint.connection s
 
 expire_freed : (w : List Sent) (at : ℕ) (o : Option ConnectionView) (s : SenderState) → expired at o (in_front w s) ≡ in_front w (expired at o s)
 expire_freed w at None s = refl
-expire_freed w at (Some c) s = packet_freed w at (segment_again c c.established) (with_begun_connection (connection_expired at c c.established) s)
+expire_freed w at (Some c) s = packet_freed w at (expiry_rule c.established) (segment_again c c.established) (with_begun_connection (connection_expired at c c.established) s)
 
 pub advanced_freed : (w : List Sent) (until : ℕ) (s : SenderState) → CameBy (in_front w) (advanced until (in_front w s)) (advanced until s)
 advanced_freed w until s =

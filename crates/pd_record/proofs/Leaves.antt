@@ -11,7 +11,7 @@ use Rattle.pd_script.specs.declared.script_events.Event.{Event}
 use Rattle.pd_seg.specs.declared.call_results.Answer.{Answer}
 use Rattle.pd_seg.specs.declared.segments.Sent.{Sent}
 use Rattle.pd_host.specs.Connection.{ConnectionView}
-use Rattle.pd_host.specs.Expiries.{advanced, deadline_of, due_by, expired, segment_again}
+use Rattle.pd_host.specs.Expiries.{advanced, deadline_of, due_by, expired, segment_again, expiry_rule}
 use Rattle.pd_host.specs.InputLaws.{AdvancesPutOutAfter}
 use Rattle.pd_host.specs.Laws.{AreInOrder}
 use Rattle.pd_host.specs.Host.{without_oldest}
@@ -22,8 +22,8 @@ use Rattle.pd_match.specs.Calls.{result_mismatch}
 use Rattle.pd_match.specs.Packets.{mismatch}
 use Rattle.pd_run.specs.Prechecks.{failed_precheck}
 use Rattle.pd_run.specs.RunStates.{RunStateView, KeepsTime}
-use Rattle.pd_run.specs.Step.{tolerance_of, comparison_noted, on_step, with_state, action_time_not_before_clock, acted, arrives, on_arrival, answers, on_answer, on_expiry, expires, awaited, packet_taken, leaves, performed, perform_event_and_find_stop, step}
-use Rattle.pd_run.specs.Times.{is_single_moment, single_moment_or_base, time_range_of, is_not_too_late_within_tolerance, base_after_expected_packet}
+use Rattle.pd_run.specs.Step.{tolerance_of, comparison_noted, on_step, with_state, action_time_not_before_clock, acted, arrives, on_arrival, answers, on_answer, on_expiry, expires, awaited, packet_taken, leaves, performed, precheck_then_perform_event_and_find_stop, step}
+use Rattle.pd_run.specs.Times.{is_single_moment, single_moment_or_base, time_range_of, is_not_too_late_within_tolerance, base_from_moment_or_later_of_base_and_sent}
 use Rattle.pd_run.specs.declared.stop_reason.StopReason.{StopReason}
 use Rattle.pd_run.specs.declared.stop_reason.StopReason.TheVariants.{Missing}
 use Rattle.pd_run.proofs.Bounds.{given, agreed, goes, unbarred, step_performs}
@@ -31,7 +31,7 @@ use Rattle.pd_record.specs.Recorder.{oldest_of, or_expired, due_where, leaves_ne
 
 -- no check barred an event whose step goes on
 pub step_unbarred : (r s : RunStateView) (e : Event) → step r e ≡ Ok s → failed_precheck r.base e ≡ None
-step_unbarred r s e h = (unbarred (performed r e e.action) (failed_precheck r.base e) s (goes e.line (perform_event_and_find_stop r e) s h)).0
+step_unbarred r s e h = (unbarred (performed r e e.action) (failed_precheck r.base e) s (goes e.line (precheck_then_perform_event_and_find_stop r e) s h)).0
 
 -- ---- inputs
 
@@ -59,13 +59,13 @@ after_call r s e call is h = answered_acted r s e call (answers r e call) (subst
 abbrev Taken : RunStateView → RunStateView → Event → Packet → Type 0
 Taken r s e p =
     (q : RunStateView) × (sent : Sent) × (awaited (comparison_noted r) e ≡ Ok q) × (slice_get q.host.state.endpoint.outbox 0 ≡ Some sent)
-    × (s.base ≡ base_after_expected_packet q.base e.time sent.at) × (s.clock ≡ q.clock)
+    × (s.base ≡ base_from_moment_or_later_of_base_and_sent q.base e.time sent.at) × (s.clock ≡ q.clock)
 
 took : (e : Event) (p : Packet) (q s : RunStateView) (o : Option Sent) → slice_get q.host.state.endpoint.outbox 0 ≡ o → packet_taken e p q o ≡ Ok s
-    → (sent : Sent) × (slice_get q.host.state.endpoint.outbox 0 ≡ Some sent) × (s.base ≡ base_after_expected_packet q.base e.time sent.at) × (s.clock ≡ q.clock)
+    → (sent : Sent) × (slice_get q.host.state.endpoint.outbox 0 ≡ Some sent) × (s.base ≡ base_from_moment_or_later_of_base_and_sent q.base e.time sent.at) × (s.clock ≡ q.clock)
 took e p q s None is h = absurd cc
 took e p q s (Some sent) is h =
-    let next : RunStateView = record q { host = without_oldest q.host; base = base_after_expected_packet q.base e.time sent.at } in
+    let next : RunStateView = record q { host = without_oldest q.host; base = base_from_moment_or_later_of_base_and_sent q.base e.time sent.at } in
     let same : next ≡ s = agreed next s _ (mismatch p (time_range_of q.base e.time) sent (tolerance_of q)) h in
     (sent, is, sym (ap (λ (x : RunStateView). x.base) same), sym (ap (λ (x : RunStateView). x.clock) same))
 
@@ -192,7 +192,7 @@ expire at s = expired at s.endpoint.connection s
 one_sent : (s : SenderState) (at : ℕ) → length s.endpoint.outbox ≡ 0 → deadline_of s ≡ Some at → (x : Sent) × (x.at ≡ at) × ((expire at s).endpoint.outbox ≡ x ∷ [])
 one_sent s at empty due =
     let c = connection_of s.endpoint.connection at due in
-    let x : Sent = record { segment = segment_again c.0 c.0.established; at = at } in
+    let x : Sent = record { segment = segment_again c.0 c.0.established; at = at; rule = expiry_rule c.0.established } in
     (x, refl, ap (λ (o : Option ConnectionView). (expired at o s).endpoint.outbox) c.1 ∙ ap (λ (list : List Sent). list ++ x ∷ []) (no_items s.endpoint.outbox empty))
 
 -- the expiries up to the next one send a packet first that carries its moment
@@ -228,18 +228,18 @@ pub record IsMoved (may : ℕ → Bool) (r s : RunStateView) (time : Time) (sent
   pub base : s.base ≡ single_moment_or_base r.base time
   pub until : (until : ℕ) → ((at : ℕ) → may at ≡ true → at ≤ until) → r.clock ≤ until → s.clock ≤ until
 
-single_base : (base : ℕ) (time : Time) (at : ℕ) → is_single_moment time ≡ true → base_after_expected_packet base time at ≡ single_moment_or_base base time
+single_base : (base : ℕ) (time : Time) (at : ℕ) → is_single_moment time ≡ true → base_from_moment_or_later_of_base_and_sent base time at ≡ single_moment_or_base base time
 single_base base time at single = ap (λ (b : Bool). if b then single_moment_or_base base time else max base at) single
 
 stood : (may : ℕ → Bool) (r s q : RunStateView) (e : Event) (sent other : Sent) → is_single_moment e.time ≡ true → KeepsTime r.clock r.host.state
-    → Stands r sent → q ≡ comparison_noted r → s.base ≡ base_after_expected_packet q.base e.time other.at → s.clock ≡ q.clock → IsMoved may r s e.time sent
+    → Stands r sent → q ≡ comparison_noted r → s.base ≡ base_from_moment_or_later_of_base_and_sent q.base e.time other.at → s.clock ≡ q.clock → IsMoved may r s e.time sent
 stood may r s q e sent other single up stands same base clock =
     let its : s.clock ≡ r.clock = clock ∙ ap (λ (x : RunStateView). x.clock) same in
     let at : sent.at ≤ r.clock = first_in_order r.clock r.host.state.endpoint.outbox sent up.up_to.packets stands in
     record {
       left = omega (arith, its, at);
       clock = omega (arith, its);
-      base = base ∙ (ap (λ (x : RunStateView). base_after_expected_packet x.base e.time other.at) same ∙ single_base r.base e.time other.at single);
+      base = base ∙ (ap (λ (x : RunStateView). base_from_moment_or_later_of_base_and_sent x.base e.time other.at) same ∙ single_base r.base e.time other.at single);
       until = λ until bounds early. omega (arith, its, early);
     }
 
@@ -248,7 +248,7 @@ ahead now most None at h is = absurd cc
 ahead now most (Some d) at h is = let same : d ≡ at = cc in subst (λ (x : ℕ). now < x) same h.0
 
 came : (puts_after : AdvancesPutOutAfter) (may : ℕ → Bool) (r s q : RunStateView) (e : Event) (sent other : Sent) → is_single_moment e.time ≡ true → KeepsTime r.clock r.host.state
-    → Expires may r sent → Awaited (comparison_noted r) q e → s.base ≡ base_after_expected_packet q.base e.time other.at → s.clock ≡ q.clock → IsMoved may r s e.time sent
+    → Expires may r sent → Awaited (comparison_noted r) q e → s.base ≡ base_from_moment_or_later_of_base_and_sent q.base e.time other.at → s.clock ≡ q.clock → IsMoved may r s e.time sent
 came puts_after may r s q e sent other single up h wait base clock =
     let due : wait.1 ≡ h.1 = (let both_due : Some wait.1 ≡ Some h.1 = sym wait.3 ∙ h.3 in cc) in
     let its : s.clock ≡ wait.1 = clock ∙ ap (λ (x : RunStateView). x.clock) wait.5 in
@@ -257,7 +257,7 @@ came puts_after may r s q e sent other single up h wait base clock =
     record {
       left = omega (arith, its, at, due);
       clock = omega (arith, its, later, due);
-      base = base ∙ (ap (λ (x : RunStateView). base_after_expected_packet x.base e.time other.at) wait.5 ∙ single_base r.base e.time other.at single);
+      base = base ∙ (ap (λ (x : RunStateView). base_from_moment_or_later_of_base_and_sent x.base e.time other.at) wait.5 ∙ single_base r.base e.time other.at single);
       until = λ until bounds early. (let within : h.1 ≤ until = bounds h.1 h.4 in omega (arith, its, due, within));
     }
 
@@ -267,7 +267,7 @@ moved puts_after may r s e p sent is single up next h =
     let last = after_packet r s e p is h in
     go last.0 last.1 last.3 last.4 last.5 (what_leaves may r sent next) (which_awaited (comparison_noted r) last.0 e last.2)
   where
-    go : (q : RunStateView) (other : Sent) → slice_get q.host.state.endpoint.outbox 0 ≡ Some other → s.base ≡ base_after_expected_packet q.base e.time other.at → s.clock ≡ q.clock
+    go : (q : RunStateView) (other : Sent) → slice_get q.host.state.endpoint.outbox 0 ≡ Some other → s.base ≡ base_from_moment_or_later_of_base_and_sent q.base e.time other.at → s.clock ≡ q.clock
         → Stands r sent ⊎ Expires may r sent → (q ≡ comparison_noted r) ⊎ Awaited (comparison_noted r) q e → IsMoved may r s e.time sent
     go q other there base clock (inl stands) (inl same) = stood may r s q e sent other single up stands same base clock
     go q other there base clock (inl stands) (inr wait) =

@@ -9,7 +9,7 @@ use Rattle.pd_script.specs.declared.script_header.HeaderItem.{HeaderItem}
 use Rattle.pd_host.specs.Host.{fresh_host}
 use Rattle.pd_run.specs.Run.{tolerance_written, tolerance_in, start_of, verdict_in, verdict_of, verdict_from}
 use Rattle.pd_run.specs.RunStates.{RunStateView}
-use Rattle.pd_run.specs.Step.{perform_event_and_find_stop, at_line, step}
+use Rattle.pd_run.specs.Step.{precheck_then_perform_event_and_find_stop, at_line, step}
 use Rattle.pd_run.specs.declared.verdict.Verdict.{Verdict}
 use Rattle.pd_run.specs.declared.verdict.Verdict.TheVariants.{Pass, Unsupported}
 use Rattle.pd_record.specs.Recording.{RecordedScriptView, recorded_script_of, events_of}
@@ -19,7 +19,7 @@ use Rattle.pd_record.proofs.Passing.{Through, passes, recording_goes}
 
 -- how an event ends doesn't depend on its line
 stepping : (r s : RunStateView) (e : Event) (line : ℕ) → step r e ≡ Ok s → step r (record e { line = line }) ≡ Ok s
-stepping r s e line h = ap (at_line line) (goes e.line (perform_event_and_find_stop r e) s h)
+stepping r s e line h = ap (at_line line) (goes e.line (precheck_then_perform_event_and_find_stop r e) s h)
 
 -- a step goes on at any line
 pub step_unplaced : (r s : RunStateView) (d e : Event) → without_line d ≡ without_line e → step r d ≡ Ok s → step r e ≡ Ok s

@@ -12,7 +12,7 @@ use Rattle.pd_host.specs.declared.endpoint.SenderState.{SenderState}
 use Rattle.pd_match.specs.Packets.{mismatch}
 use Rattle.pd_print.specs.Sent.{packet_of}
 use Rattle.pd_run.specs.Step.{RunStateView, tolerance_of, comparison_noted, on_step, with_state, awaited, packet_taken as compared, leaves}
-use Rattle.pd_run.specs.Times.{time_range_of, is_not_too_late_within_tolerance, base_after_expected_packet}
+use Rattle.pd_run.specs.Times.{time_range_of, is_not_too_late_within_tolerance, base_from_moment_or_later_of_base_and_sent}
 use Rattle.pd_run.specs.declared.stop_reason.StopReason.{StopReason}
 use Rattle.pd_run.proofs.Bounds.{agreed, step_performs}
 use Rattle.pd_record.specs.FollowsRun.{input_at, inputs_in, departure_at, departures_in, departed}
@@ -65,13 +65,13 @@ pub record Met (r s : RunStateView) (e : Event) (sent : Sent) : Type 0 where
   pub first : slice_get before.endpoint.outbox 0 ≡ Some sent
   pub waits : Waits r s e before
   pub state : s.host.state ≡ without_first before
-  pub base : s.base ≡ base_after_expected_packet r.base e.time sent.at
+  pub base : s.base ≡ base_from_moment_or_later_of_base_and_sent r.base e.time sent.at
   pub header_tolerance : s.header_tolerance ≡ r.header_tolerance
   pub happened : on_step (λ q. take 1 q.host.state.endpoint.outbox) (λ v. []) (awaited (comparison_noted r) e) ≡ sent ∷ []
 
 -- a run after the oldest packet was taken
 abbrev taken_by : RunStateView → Event → Sent → RunStateView
-taken_by q e sent = record q { host = without_oldest q.host; base = base_after_expected_packet q.base e.time sent.at }
+taken_by q e sent = record q { host = without_oldest q.host; base = base_from_moment_or_later_of_base_and_sent q.base e.time sent.at }
 
 took : (e : Event) (p : Packet) (q s : RunStateView) (o : Option Sent) → slice_get q.host.state.endpoint.outbox 0 ≡ o → compared e p q o ≡ Ok s
     → (sent : Sent) × (slice_get q.host.state.endpoint.outbox 0 ≡ Some sent) × (taken_by q e sent ≡ s)

@@ -23,7 +23,7 @@ use Rattle.pd_run.specs.Prechecks.{failed_precheck}
 use Rattle.pd_run.specs.Run.{start_of}
 use Rattle.pd_run.specs.RunStates.{RunStateView}
 use Rattle.pd_run.specs.Step.{tolerance_of, step}
-use Rattle.pd_run.specs.Times.{single_moment_or_base, time_range_of, is_not_too_late_within_tolerance, base_after_expected_packet}
+use Rattle.pd_run.specs.Times.{single_moment_or_base, time_range_of, is_not_too_late_within_tolerance, base_from_moment_or_later_of_base_and_sent}
 use Rattle.pd_run.specs.Verdicts.{precheck_verdict, verdict_by}
 use Rattle.pd_run.specs.declared.verdict.Verdict.{Verdict}
 use Rattle.pd_run.specs.declared.verdict.Verdict.TheVariants as verdict
@@ -200,7 +200,7 @@ calls line at call t =
 
 -- the base after an expected packet that met one which left at a moment, or none
 abbrev pub based_after : Time → Option ℕ → RecorderView → RecorderView
-based_after time met t = with_base (base_after_expected_packet t.base time (unwrap_or met t.base)) t
+based_after time met t = with_base (base_from_moment_or_later_of_base_and_sent t.base time (unwrap_or met t.base)) t
 
 -- an expected packet that no recorded one is there for meets the one that leaves next, if any does
 abbrev pub meets : RecorderView → Event → Option Sent → Answers (RecorderView × EventRecordingView)

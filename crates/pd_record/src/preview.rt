@@ -8,7 +8,7 @@ ghost use Rattle.pd_record.specs.Recorder.{answered, oldest_unmatched_or_next_ex
 ghost use Rattle.pd_record.specs.Inner.{Finds};
 
 use crate::record_error::RecordError;
-use pd_host::{Halt, Host, HostEnd, law_queued_octets_per_input_bounded};
+use pd_host::{Halt, Host, HostEnd, law_send_buffer_growth_per_input_bounded};
 use pd_run::Verdict;
 use pd_script::Call;
 use pd_seg::{Answer, Sent};
@@ -67,7 +67,7 @@ fn advance_and_call(host: &mut Host, call: &Call, at: u64) -> Result<Answer, Hos
     requires short { IsShort host.old.state }
     ensures { Answers host.old (λ s. then_on (called call.now at) (advanced at s)) result host.new }
 {
-    law_queued_octets_per_input_bounded();
+    law_send_buffer_growth_per_input_bounded();
     host.advance(at)?;
     host.call(call, at)
 }

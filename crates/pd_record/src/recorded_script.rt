@@ -50,7 +50,7 @@ pub fn record_script(
     let mut recorder = Recorder::new(alloc, header, settings, with_trace)?;
     let per_event = record_events(alloc, &mut recorder, events)?;
     let now = recorder.clock();
-    let rest = recorder.record_unmet_departures_until(alloc, 0, now)?;
+    let rest = recorder.record_departures_until_as_unmet(alloc, 0, now)?;
     Ok(RecordedScript {
         per_event,
         rest,

@@ -14,9 +14,9 @@ use crate::results::expected_result_from_answer;
 use pd_match::check_call;
 use pd_print::script_packet_of_segment;
 use pd_run::{
-    Plain, RunState, StepEnd, Stepper, Verdict, base_after_expected_packet, failed_precheck,
-    is_not_too_late_within_tolerance, law_runs_stay_in_step_bounds, single_moment_or_base,
-    time_range_of,
+    Plain, RunState, StepEnd, Stepper, Verdict, base_from_moment_or_later_of_base_and_sent,
+    failed_precheck, is_not_too_late_within_tolerance, law_clock_base_and_queue_bounded_per_event,
+    single_moment_or_base, time_range_of,
 };
 use pd_script::{Action, Call, Event, Header, MAX_EVENTS, Packet, Time};
 use pd_seg::{Answer, Sent};
@@ -69,7 +69,7 @@ impl Recorder {
         ensures sound { IfOk result (λ recorder. Sound recorder) }
         ensures base { IfOk result (λ recorder. recorder.base ≡ 0) }
     {
-        law_runs_stay_in_step_bounds();
+        law_clock_base_and_queue_bounded_per_event();
         let run = match RunState::new(alloc, header, settings) {
             Ok(run) => run,
             Err(verdict) => return Err(RecordError::Stopped(verdict)),
@@ -181,7 +181,7 @@ impl Recorder {
         ensures base { OnOk result (self.new.base ≡ single_moment_or_base self.old.base event.now.time) }
     {
         let at = self.action_time_not_before_clock(event);
-        let before = self.record_unmet_departures_until(alloc, event.line, at)?;
+        let before = self.record_departures_until_as_unmet(alloc, event.line, at)?;
         let recorded = self.step_and_record_action(
             event.line,
             at,
@@ -212,7 +212,7 @@ impl Recorder {
         ensures base { OnOk result (self.new.base ≡ single_moment_or_base self.old.base event.now.time) }
     {
         let at = self.action_time_not_before_clock(event);
-        let before = self.record_unmet_departures_until(alloc, event.line, at)?;
+        let before = self.record_departures_until_as_unmet(alloc, event.line, at)?;
         let own = self.make_and_record_call(event.line, at, call)?;
         self.base = single_moment_or_base(self.base, event.time);
         Ok(EventRecording {
@@ -225,7 +225,7 @@ impl Recorder {
     ///
     /// # Errors
     /// `Stopped`, `TooManyEvents`, `TooLongGap` and `OutOfMemory`.
-    pub fn record_unmet_departures_until(
+    pub fn record_departures_until_as_unmet(
         &mut self,
         alloc: Global,
         line: usize,
@@ -262,7 +262,10 @@ impl Recorder {
     }
 
     /// The packet that leaves next, if it is unmatched, or an expiry that may come in time for an expected one sends it.
-    fn next_packet_in_time_for_event(&self, event: &Event) -> Result<Option<Sent>, AllocError>
+    fn preview_next_packet_unless_expiry_too_late(
+        &self,
+        event: &Event,
+    ) -> Result<Option<Sent>, AllocError>
         requires sound { Sound self.now }
         requires early { self.now.base < 2 ^ 60 }
         requires short { list_any is_long (written_times event.now.time) ≡ false }
@@ -342,15 +345,17 @@ impl Recorder {
         ensures base { OnOk result (self.new.base ≤ max (self.old.base + 3600000000) (3600000000 * 4097)) }
     {
         if let Some(at) = self.unmet.pop_front() {
-            self.base = base_after_expected_packet(self.base, event.time, at);
+            self.base = base_from_moment_or_later_of_base_and_sent(self.base, event.time, at);
             return Ok(empty_event_recording(alloc));
         }
-        let Some(sent) = self.next_packet_in_time_for_event(event)? else {
-            self.base = base_after_expected_packet(self.base, event.time, self.base);
+        let Some(sent) = self.preview_next_packet_unless_expiry_too_late(event)? else {
+            self.base = base_from_moment_or_later_of_base_and_sent(
+                self.base, event.time, self.base,
+            );
             return Ok(empty_event_recording(alloc));
         };
         let recorded = self.record_sent_packet(alloc, event.line, &sent)?;
-        self.base = base_after_expected_packet(self.base, event.time, sent.at);
+        self.base = base_from_moment_or_later_of_base_and_sent(self.base, event.time, sent.at);
         Ok(EventRecording {
             before: Vec::new(alloc),
             own: Some(OwnEvent {
@@ -420,7 +425,7 @@ impl Recorder {
         ensures same { OnOk result (self.new.unmet ≡ self.old.unmet) }
         ensures base { OnOk result (self.new.base ≡ self.old.base) }
     {
-        law_runs_stay_in_step_bounds();
+        law_clock_base_and_queue_bounded_per_event();
         match Plain::new().step(&mut self.run, event, &self.settings)? {
             StepEnd::Go => {}
             StepEnd::Stop(verdict) => return Err(RecordError::Stopped(verdict)),

@@ -17,7 +17,7 @@ use crate::recording_text::Recording;
 use crate::unchanged::is_own_recording_without_trace;
 use pd_host::{law_each_send_appends_one_packet, law_expiries_append_in_order_without_settings};
 use pd_layout::is_canonical_text_of_header_and_events;
-use pd_run::{law_runs_stay_in_step_bounds, law_verdicts_have_reasons, run_all};
+use pd_run::{law_clock_base_and_queue_bounded_per_event, law_verdicts_have_reasons, run_all};
 use pd_settings::Settings;
 use pd_text::Lines;
 use std::alloc::Global;
@@ -45,7 +45,7 @@ pub fn record_script_text(
     ensures spared { IsSettled lines.now settings.now → with_trace ≡ false → IfErr result (λ refusal. refusal ≡ OutOfMemory) }
     ensures refused { IfErr result (Refuses (recording_of lines.now settings.now)) }
 {
-    law_runs_stay_in_step_bounds();
+    law_clock_base_and_queue_bounded_per_event();
     law_expiries_append_in_order_without_settings();
     law_each_send_appends_one_packet();
     law_verdicts_have_reasons();

@@ -92,7 +92,7 @@ impl<'a> Writer<'a> {
         self.put_comment_and_blank_lines(&layout.leading)?;
         match own.recorded_answer {
             None => self.append_packet_event_to_line(&own.recorded)?,
-            Some(recorded_answer) => self.put_call_with_answer_and_fitting_note(
+            Some(recorded_answer) => self.put_call_with_answer_and_note_if_expected(
                 layout,
                 own.recorded.event.time,
                 recorded_answer,
@@ -152,7 +152,7 @@ impl<'a> Writer<'a> {
 
     /// Adds a call: its time, its octets up to `=`, what the sender answers, and its note if that is the written result. If not,
     /// the comments of the note come before the call.
-    fn put_call_with_answer_and_fitting_note(
+    fn put_call_with_answer_and_note_if_expected(
         &mut self,
         layout: &Layout,
         time: Time,
@@ -270,7 +270,7 @@ impl<'a> Writer<'a> {
 /// Adds a line, or several that newlines part.
 fn push_lines_split_at_newlines(list: &mut LineList, octets: &[u8]) -> Result<(), AllocError> {
     for line in octets.split(|octet| *octet == b'\n') {
-        list.push_unless_newline_inside(line)?;
+        list.push_or_ignore_if_newline_inside(line)?;
     }
     Ok(())
 }

@@ -5,7 +5,7 @@ use Rattle.pd_recover.specs.declared.ack.Ack.{Ack}
 use Rattle.pd_recover.specs.declared.ack.SackNews.{SackNews}
 use Rattle.pd_recover.specs.declared.ack_action.AckAction.{AckAction}
 use Rattle.pd_recover.specs.declared.ack_action.AckAction.TheVariants.{Ordinary, StepC, Entry, LimitedTransmit, NewSegment, FastRetransmit, Nothing}
-use Rattle.pd_recover.specs.Acks.{acked_with_sack, acked_without_sack, new_octets_acked, dup_ack_counted, grown_by, recovery_ended, with_delivered, recovery_continued, selective_duplicate, plain_duplicate, sent_limited, entered, retransmitted, new_segment_within_rwnd, first_outstanding_segment}
+use Rattle.pd_recover.specs.Acks.{acked_with_sack, acked_without_sack, new_octets_acked, dup_ack_counted, grown_by, recovery_ended, with_delivered, recovery_continued, selective_duplicate, plain_duplicate, sent_limited, entered, retransmitted, new_segment_at_top_if_whole_in_rwnd, first_outstanding_segment}
 use Rattle.pd_recover.specs.Cong.{CongView, widened, with_limited}
 use Rattle.pd_recover.specs.Prr.{uses_prr}
 
@@ -30,13 +30,13 @@ module _ (P : CongView × AckAction → Type 0) (ack : Ack) where
   -- without SACK: a new segment or nothing, the segment at una again, or a wider window
   pub plain_cases : (w : CongView)
       → P (w, Nothing)
-      → ((segment : Span) → new_segment_within_rwnd ack.smss ack.una ack.top ack.end ack.rwnd ≡ Some segment
+      → ((segment : Span) → new_segment_at_top_if_whole_in_rwnd ack.smss ack.una ack.top ack.end ack.rwnd ≡ Some segment
       → P (with_limited (segment.end - segment.start) w, NewSegment segment))
       → P (retransmitted ack w, FastRetransmit (first_outstanding_segment ack)) → P (widened ack.smss w, Ordinary)
       → P (plain_duplicate ack w)
   plain_cases w nothing sent again wider =
       either P _ _ _
-      (either P _ _ _ (sent_cases (new_segment_within_rwnd ack.smss ack.una ack.top ack.end ack.rwnd) w nothing sent) nothing)
+      (either P _ _ _ (sent_cases (new_segment_at_top_if_whole_in_rwnd ack.smss ack.una ack.top ack.end ack.rwnd) w nothing sent) nothing)
       (either P _ _ _ again wider)
 
   -- recovery with SACK goes on, with nothing or something delivered

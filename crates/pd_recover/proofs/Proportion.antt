@@ -14,7 +14,7 @@ use Rattle.pd_recover.specs.declared.ack_action.AckAction.TheVariants.{Ordinary,
 use Rattle.pd_recover.specs.Acks.{acked, acked_by, acked_with_sack, renewed, grown_by, dup_ack_counted, new_octets_acked, entered, recovery_ended, selective_duplicate, with_delivered, recovery_continued, prr_begun}
 use Rattle.pd_recover.specs.Cong.{CongView, is_prr_recovering, with_prr_cwnd, sndcnt, with_prr_out}
 use Rattle.pd_recover.specs.Laws.{forces, SendsInProportion, CountsRecovery, Rfc6675IgnoresPrr}
-use Rattle.pd_recover.specs.Prr.{uses_prr, no_prr, begun_with, delivery_counted, with_sent, proportional_ssthresh, sndcnt_limit, unforced_sndcnt}
+use Rattle.pd_recover.specs.Prr.{uses_prr, no_prr, begun_with, delivery_counted, with_sent, proportional_ssthresh, sndcnt_limit_plus_smss_if_safe_ack, unforced_sndcnt}
 use Rattle.pd_recover.proofs.Cases.{either, selective_cases, plain_cases, sack_cases, number_cases}
 
 -- The octets that are let out
@@ -49,15 +49,15 @@ module _ (smss pipe : ℕ) (w : CongView) where
 
   in_part : w.ssthresh < pipe → kept ≡ proportional_ssthresh w.ssthresh w.prr - w.prr.prr_out
   in_part above =
-      ap (λ (b : Bool). if b then proportional_ssthresh w.ssthresh w.prr - w.prr.prr_out else min (w.ssthresh - pipe) (sndcnt_limit smss w.prr))
+      ap (λ (b : Bool). if b then proportional_ssthresh w.ssthresh w.prr - w.prr.prr_out else min (w.ssthresh - pipe) (sndcnt_limit_plus_smss_if_safe_ack smss w.prr))
       (below w.ssthresh pipe above)
 
-  in_limit : pipe ≤ w.ssthresh → kept ≡ min (w.ssthresh - pipe) (sndcnt_limit smss w.prr)
+  in_limit : pipe ≤ w.ssthresh → kept ≡ min (w.ssthresh - pipe) (sndcnt_limit_plus_smss_if_safe_ack smss w.prr)
   in_limit low =
-      ap (λ (b : Bool). if b then proportional_ssthresh w.ssthresh w.prr - w.prr.prr_out else min (w.ssthresh - pipe) (sndcnt_limit smss w.prr))
+      ap (λ (b : Bool). if b then proportional_ssthresh w.ssthresh w.prr - w.prr.prr_out else min (w.ssthresh - pipe) (sndcnt_limit_plus_smss_if_safe_ack smss w.prr))
       (not_below w.ssthresh pipe low)
 
-  unsafe : w.prr.safe_ack ≡ false → sndcnt_limit smss w.prr ≡ max (w.prr.prr_delivered - w.prr.prr_out) w.prr.delivered_data + 0
+  unsafe : w.prr.safe_ack ≡ false → sndcnt_limit_plus_smss_if_safe_ack smss w.prr ≡ max (w.prr.prr_delivered - w.prr.prr_out) w.prr.delivered_data + 0
   unsafe e = ap (λ (b : Bool). max (w.prr.prr_delivered - w.prr.prr_out) w.prr.delivered_data + (if b then smss else 0)) e
 
 pub lets_out_in_proportion : SendsInProportion
@@ -71,7 +71,7 @@ lets_out_in_proportion = record {
       (up_to r.prr_out (proportional_ssthresh w.ssthresh r));
   target = λ smss pipe w none low.
       subst (λ (n : ℕ). pipe + n ≤ w.ssthresh) (sym (free smss pipe w none ∙ in_limit smss pipe w low))
-      (up_to_target pipe w.ssthresh (sndcnt_limit smss w.prr) low);
+      (up_to_target pipe w.ssthresh (sndcnt_limit_plus_smss_if_safe_ack smss w.prr) low);
   conservative = λ smss pipe w none low failed.
       let r = w.prr in
       subst (λ (n : ℕ). r.prr_out + n ≤ max r.prr_delivered (r.prr_out + r.delivered_data))

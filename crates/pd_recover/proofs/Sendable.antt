@@ -8,7 +8,7 @@ use Rattle.pd_board.specs.Octets.{contains, least_where, greatest_where, after}
 use Rattle.pd_board.specs.Board.{BoardView, IsBoardView}
 use Rattle.pd_recover.specs.declared.next_segment.NextSegment.{NextSegment}
 use Rattle.pd_recover.specs.declared.next_segment.NextSegment.TheVariants.{Lost, New, Hole, Rescue}
-use Rattle.pd_recover.specs.NextSeg.{IsSendable, segment_of, lost_run, new_segment_on_board_within_rwnd, hole_run, rescue_run, next_send}
+use Rattle.pd_recover.specs.NextSeg.{IsSendable, segment_of, lost_run, board_new_segment_at_top_if_whole_in_rwnd, hole_run, rescue_run, next_send}
 use Rattle.pd_recover.specs.Cong.{CongView}
 use Rattle.pd_recover.proofs.Chosen.{AllOf, one_of, either_of, map_of, allowed_of}
 use Rattle.pd_recover.proofs.Found.{least, greatest}
@@ -54,7 +54,7 @@ hole_sendable s known high x e =
     let h = least _ s.una s.top x e in
     run_sendable s known x h.from h.to (first_of_two _ _ h.passes)
 
-pub data_sendable : (rwnd : ℕ) (s : BoardView) → IsBoardView s → AllOf (IsSendable s) (new_segment_on_board_within_rwnd rwnd s)
+pub data_sendable : (rwnd : ℕ) (s : BoardView) → IsBoardView s → AllOf (IsSendable s) (board_new_segment_at_top_if_whole_in_rwnd rwnd s)
 data_sendable rwnd s known =
     allowed_of (IsSendable s) _ _ (λ t. one_of (IsSendable s) _ (record {
       from = omega (arith, known.una_next, known.next_top);
@@ -85,6 +85,6 @@ pub next_sendable : (rwnd : ℕ) (s : BoardView) (w : CongView) → IsBoardView 
 next_sendable rwnd s w known =
     let P : NextSegment → Type 0 = λ sent. IsSendable s (segment_of sent) in
     either_of P (lost_run s w) _ (map_of P (λ x. Lost (run_at x s)) (next_lost w.high_rxt s) (lost_sendable s known w.high_rxt))
-    (either_of P (option_map (λ segment. New segment) (new_segment_on_board_within_rwnd rwnd s)) _ (map_of P (λ segment. New segment) (new_segment_on_board_within_rwnd rwnd s) (data_sendable rwnd s known))
+    (either_of P (option_map (λ segment. New segment) (board_new_segment_at_top_if_whole_in_rwnd rwnd s)) _ (map_of P (λ segment. New segment) (board_new_segment_at_top_if_whole_in_rwnd rwnd s) (data_sendable rwnd s known))
     (either_of P (hole_run s w) (rescue_run s w) (map_of P (λ x. Hole (run_at x s)) (find_unsacked_octet_by_nextseg_rule_3 w.high_rxt s) (hole_sendable s known w.high_rxt))
     (allowed_of P _ _ (λ _. map_of P (λ segment. Rescue segment) (rescue s) (rescue_sendable s known)))))

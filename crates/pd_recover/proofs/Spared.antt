@@ -7,7 +7,7 @@ use Rattle.pd_board.specs.Octets.{contains, least_where, greatest_where, after}
 use Rattle.pd_board.specs.Board.{BoardView, IsBoardView}
 use Rattle.pd_recover.specs.declared.next_segment.NextSegment.{NextSegment}
 use Rattle.pd_recover.specs.declared.next_segment.NextSegment.TheVariants.{Lost, New, Hole, Rescue}
-use Rattle.pd_recover.specs.NextSeg.{segment_of, lost_run, new_segment_on_board_within_rwnd, hole_run, rescue_run}
+use Rattle.pd_recover.specs.NextSeg.{segment_of, lost_run, board_new_segment_at_top_if_whole_in_rwnd, hole_run, rescue_run}
 use Rattle.pd_recover.specs.Laws.{IsSpared, SparesSacked}
 use Rattle.pd_recover.proofs.Chosen.{AllOf, one_of, either_of, map_of, allowed_of}
 use Rattle.pd_recover.proofs.Found.{least, no_least, greatest, no_greatest, split}
@@ -25,7 +25,7 @@ run_spared s start x l u = by_first (least_where (contains s.sacked) start (most
     by_first (Some r) e v = (least (contains s.sacked) start (most_from start s) r e).first x l v
 
 -- new data lies above all that was sent
-new_spared : (rwnd : ℕ) (s : BoardView) → IsBoardView s → AllOf (IsSpared s) (new_segment_on_board_within_rwnd rwnd s)
+new_spared : (rwnd : ℕ) (s : BoardView) → IsBoardView s → AllOf (IsSpared s) (board_new_segment_at_top_if_whole_in_rwnd rwnd s)
 new_spared rwnd s known =
     allowed_of (IsSpared s) _ _ (λ _. one_of (IsSpared s) _ (λ x l u. sure (contains s.sacked x) (λ t. above x l (known.sacked_sent x t).1)))
   where
@@ -55,7 +55,7 @@ spares_sacked = record {
   chosen = λ rwnd s w known.
       let P : NextSegment → Type 0 = λ sent. IsSpared s (segment_of sent) in
       either_of P (lost_run s w) _ (map_of P (λ x. Lost (run_at x s)) (next_lost w.high_rxt s) (λ x e. run_spared s x))
-      (either_of P (option_map (λ segment. New segment) (new_segment_on_board_within_rwnd rwnd s)) _ (map_of P (λ segment. New segment) (new_segment_on_board_within_rwnd rwnd s) (new_spared rwnd s known))
+      (either_of P (option_map (λ segment. New segment) (board_new_segment_at_top_if_whole_in_rwnd rwnd s)) _ (map_of P (λ segment. New segment) (board_new_segment_at_top_if_whole_in_rwnd rwnd s) (new_spared rwnd s known))
       (either_of P (hole_run s w) (rescue_run s w) (map_of P (λ x. Hole (run_at x s)) (find_unsacked_octet_by_nextseg_rule_3 w.high_rxt s) (λ x e. run_spared s x))
       (allowed_of P _ _ (λ _. map_of P (λ segment. Rescue segment) (rescue s) (rescue_spared s)))));
 }

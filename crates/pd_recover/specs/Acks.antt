@@ -38,8 +38,8 @@ abbrev pub half_of : Ack → CongView → ℕ
 half_of ack w = halved ack.smss ack.una ack.top w
 
 -- the new segment at top, where data is queued and the peer's window takes it (RFC 6675, section 4, NextSeg, rule 2)
-abbrev pub new_segment_within_rwnd : ℕ → ℕ → ℕ → ℕ → ℕ → Option Span
-new_segment_within_rwnd smss una top end rwnd =
+abbrev pub new_segment_at_top_if_whole_in_rwnd : ℕ → ℕ → ℕ → ℕ → ℕ → Option Span
+new_segment_at_top_if_whole_in_rwnd smss una top end rwnd =
     let to = top + min smss (end - top) in
     if nat_lt top to && nat_le to (una + rwnd) then Some (record { start = top; end = to }) else None
 
@@ -122,7 +122,7 @@ sent_limited ack (Some segment) w =
 -- each duplicate before that sends one new segment, where limited transmit is on (step 1; RFC 3042)
 abbrev pub limited_transmit : Ack → CongView → CongView × AckAction
 limited_transmit ack w =
-    if w.limited_transmit then sent_limited ack (new_segment_within_rwnd ack.smss ack.una ack.top ack.end ack.rwnd) w else (w, Nothing)
+    if w.limited_transmit then sent_limited ack (new_segment_at_top_if_whole_in_rwnd ack.smss ack.una ack.top ack.end ack.rwnd) w else (w, Nothing)
 
 -- the segment at una, SMSS octets at most
 abbrev pub first_outstanding_segment : Ack → Span

@@ -16,7 +16,7 @@ use Rattle.pd_recover.specs.declared.ack.Delivery.{Delivery}
 use Rattle.pd_recover.specs.declared.ack_action.AckAction.TheVariants.{StepC, Entry, Nothing}
 use Rattle.pd_recover.specs.Prr.{uses_prr, no_prr, begun_with, delivery_counted, with_sent, proportional_ssthresh, is_forced}
 use Rattle.pd_recover.specs.Acks.{renewed, acked}
-use Rattle.pd_recover.specs.NextSeg.{IsSendable, segment_of, new_segment_on_board_within_rwnd, next_send, step_c_segment, with_sent_noted}
+use Rattle.pd_recover.specs.NextSeg.{IsSendable, segment_of, board_new_segment_at_top_if_whole_in_rwnd, next_send, step_c_segment, with_sent_noted}
 use Rattle.pd_recover.specs.Cong.{CongView, IsCongView, initial_window_by_rule, begun, begun_settings, is_prr_recovering, limit_of, cwnd_growth, timed_out, restarted, with_prr_out, sndcnt, with_prr_cwnd}
 
 -- the window lies between one segment, in recovery by PRR 0, and 2^30, the threshold between 2 segments, or its initial value where that is lower,
@@ -221,4 +221,4 @@ pub record ChoosesSendable : Type 0 where
       → (sent : NextSegment) → next_send rwnd s w ≡ Some sent → IsSendable s (segment_of sent)
   pub limited :
       (rwnd : ℕ) (s : BoardView) → IsBoardView s
-      → (segment : Span) → new_segment_on_board_within_rwnd rwnd s ≡ Some segment → IsSendable s segment
+      → (segment : Span) → board_new_segment_at_top_if_whole_in_rwnd rwnd s ≡ Some segment → IsSendable s segment

@@ -6,7 +6,7 @@ use Rattle.pd_board.specs.Retransmit.{run_at, next_lost, find_unsacked_octet_by_
 use Rattle.pd_board.specs.Board.{BoardView}
 use Rattle.pd_recover.specs.declared.next_segment.NextSegment.{NextSegment}
 use Rattle.pd_recover.specs.declared.next_segment.NextSegment.TheVariants.{Lost, New, Hole, Rescue}
-use Rattle.pd_recover.specs.Acks.{new_segment_within_rwnd}
+use Rattle.pd_recover.specs.Acks.{new_segment_at_top_if_whole_in_rwnd}
 use Rattle.pd_recover.specs.Cong.{CongView, with_prr_out}
 
 -- the octets of a segment
@@ -28,8 +28,8 @@ abbrev pub lost_run : BoardView → CongView → Option NextSegment
 lost_run s w = option_map (λ x. Lost (run_at x s)) (next_lost w.high_rxt s)
 
 -- rule 2: up to SMSS octets of new data, where the peer's window takes them
-abbrev pub new_segment_on_board_within_rwnd : ℕ → BoardView → Option Span
-new_segment_on_board_within_rwnd rwnd s = new_segment_within_rwnd s.smss s.una s.top s.end rwnd
+abbrev pub board_new_segment_at_top_if_whole_in_rwnd : ℕ → BoardView → Option Span
+board_new_segment_at_top_if_whole_in_rwnd rwnd s = new_segment_at_top_if_whole_in_rwnd s.smss s.una s.top s.end rwnd
 
 -- rule 3: from the first octet that wasn't sent again and lies below a SACKed one
 abbrev pub hole_run : BoardView → CongView → Option NextSegment
@@ -49,7 +49,7 @@ first_by_next_seg_rules unsent s w =
 
 -- NextSeg: the first rule that gives a segment; by rule 5 there is none
 abbrev pub next_send : ℕ → BoardView → CongView → Option NextSegment
-next_send rwnd s w = first_by_next_seg_rules (new_segment_on_board_within_rwnd rwnd s) s w
+next_send rwnd s w = first_by_next_seg_rules (board_new_segment_at_top_if_whole_in_rwnd rwnd s) s w
 
 -- cwnd - pipe is at least SMSS: a full segment has room between what is on the way and the window
 abbrev pub has_room_for_segment : ℕ → BoardView → CongView → Bool
@@ -61,7 +61,7 @@ step_c_segment rwnd pipe s w = if has_room_for_segment pipe s w then next_send r
 
 -- limited transmit: new data while there is room (section 5, step 3)
 abbrev pub limited_transmit_segment : ℕ → ℕ → BoardView → CongView → Option Span
-limited_transmit_segment rwnd pipe s w = if has_room_for_segment pipe s w then new_segment_on_board_within_rwnd rwnd s else None
+limited_transmit_segment rwnd pipe s w = if has_room_for_segment pipe s w then board_new_segment_at_top_if_whole_in_rwnd rwnd s else None
 
 -- the number that a segment sent by these rules moves: rules 1 and 3 HighRxt, rule 4 RescueRxt
 abbrev pub moved : NextSegment → CongView → CongView

@@ -41,14 +41,14 @@ abbrev pub proportional_ssthresh : ℕ → PrrState → ℕ
 proportional_ssthresh ssthresh r = (r.prr_delivered * ssthresh + (r.recover_fs - 1)) / r.recover_fs
 
 -- the greater of prr_delivered - prr_out and DeliveredData, and SMSS more at a SafeACK
-abbrev pub sndcnt_limit : ℕ → PrrState → ℕ
-sndcnt_limit smss r = max (r.prr_delivered - r.prr_out) r.delivered_data + (if r.safe_ack then smss else 0)
+abbrev pub sndcnt_limit_plus_smss_if_safe_ack : ℕ → PrrState → ℕ
+sndcnt_limit_plus_smss_if_safe_ack smss r = max (r.prr_delivered - r.prr_out) r.delivered_data + (if r.safe_ack then smss else 0)
 
 -- sndcnt before a segment is forced: with the pipe above ssthresh, the part of ssthresh less prr_out, 0 where that is more
 -- (own); else the limit, up to ssthresh - pipe
 abbrev pub unforced_sndcnt : ℕ → ℕ → ℕ → PrrState → ℕ
 unforced_sndcnt smss pipe ssthresh r =
-    if nat_lt ssthresh pipe then proportional_ssthresh ssthresh r - r.prr_out else min (ssthresh - pipe) (sndcnt_limit smss r)
+    if nat_lt ssthresh pipe then proportional_ssthresh ssthresh r - r.prr_out else min (ssthresh - pipe) (sndcnt_limit_plus_smss_if_safe_ack smss r)
 
 -- a segment is forced where nothing was sent in this recovery and nothing would be
 abbrev pub is_forced : ℕ → ℕ → ℕ → PrrState → Bool

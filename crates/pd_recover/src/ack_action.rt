@@ -9,7 +9,7 @@ pub enum AckAction {
     /// Segments by NextSeg, as long as cwnd - pipe allows one (RFC 6675, section 5, step C).
     StepC,
     /// Loss recovery begins (RFC 6675, section 5, step 4): the segment at SND.UNA again, which
-    /// `Cong::set_high_and_rescue_rxt_to_segment_end` counts, then as `StepC`.
+    /// `Cong::set_high_and_rescue_rxt_and_count_prr_out` counts, then as `StepC`.
     Entry,
     /// New segments, as long as cwnd - pipe allows one, which `Cong::count_limited_transmit_octets` counts (RFC 6675, section 5,
     /// step 3).

@@ -124,14 +124,14 @@ fn initial_window_rule_if_idle_restart_on(on: bool, rule: InitialWindow) -> Opti
 impl Cong {
     /// The state at establishment: the initial window (RFC 5681, section 3.1; RFC 6928, section 2), one segment where
     /// the SYN/ACK was sent again. SMSS is in octets. Of the settings it looks at those of
-    /// `setting_set_with_congestion_settings` alone.
+    /// `consulted_settings_plus_those_new_reads` alone.
     pub fn new(settings: &Settings, smss: u16, syn_ack_resent: bool) -> Cong
         requires from { 64 ≤ smss }
         requires to { smss ≤ 65495 }
         ensures value { result ≡ begun settings.now smss syn_ack_resent }
         ensures known { IsCongView result }
     {
-        settings.law_invariant();
+        settings.law_ssthresh_and_rto_bounds_are_allowed();
         Cong {
             cwnd: initial_cwnd_smss_if_syn_ack_resent(
                 settings.initial_window,
@@ -159,7 +159,7 @@ impl Cong {
     }
 
     /// With the settings that `new` consults.
-    pub fn setting_set_with_congestion_settings(consulted_settings: SettingSet) -> SettingSet
+    pub fn consulted_settings_plus_those_new_reads(consulted_settings: SettingSet) -> SettingSet
         ensures { result ≡ begun_settings consulted_settings }
     {
         SettingSet {
@@ -289,7 +289,7 @@ impl Cong {
     }
 
     /// An entry has sent the segment at SND.UNA again (RFC 6675, section 5, step 4.3).
-    pub fn set_high_and_rescue_rxt_to_segment_end(&mut self, segment: Span)
+    pub fn set_high_and_rescue_rxt_and_count_prr_out(&mut self, segment: Span)
         ensures { self.new ≡ entered_to segment self.old }
     {
         self.high_rxt = segment.end;
@@ -331,10 +331,11 @@ impl Cong {
                 .proportional_ssthresh(self.ssthresh)
                 .saturating_sub(u64::from(self.prr.prr_out));
         }
-        u64::from(self.ssthresh - pipe).min(self.prr.sndcnt_limit(smss))
+        u64::from(self.ssthresh - pipe).min(self.prr.sndcnt_limit_plus_smss_if_safe_ack(smss))
     }
 
-    /// Whether recovery goes on by PRR, where `set_prr_cwnd` sets the window. Without SACK nothing calls it.
+    /// Whether recovery goes on by PRR, where `set_cwnd_pipe_plus_sndcnt_if_prr` sets the window. Without SACK nothing calls
+    /// it.
     pub fn is_prr_recovering(&self) -> bool
         ensures { result ≡ is_prr_recovering self.now.recovering self.now.recovery_algorithm }
     {

@@ -1,6 +1,6 @@
 //! The state of Proportional Rate Reduction in a recovery.
 ghost use Rattle.std.specs.Prelude.{◌≡◌, ◌<◌, ◌≤◌, ◌^◌};
-ghost use Rattle.pd_recover.specs.Prr.{IsPrrState, no_prr, begun_with, delivery_counted, with_sent, proportional_ssthresh, sndcnt_limit};
+ghost use Rattle.pd_recover.specs.Prr.{IsPrrState, no_prr, begun_with, delivery_counted, with_sent, proportional_ssthresh, sndcnt_limit_plus_smss_if_safe_ack};
 
 use crate::ack::Delivery;
 
@@ -85,9 +85,9 @@ impl PrrState {
 
     /// How many octets the last ACK lets out where the pipe isn't above ssthresh and ssthresh leaves room for them, with this
     /// SMSS in octets.
-    pub fn sndcnt_limit(self, smss: u16) -> u64
+    pub fn sndcnt_limit_plus_smss_if_safe_ack(self, smss: u16) -> u64
         requires { IsPrrState self }
-        ensures { result ≡ sndcnt_limit smss self }
+        ensures { result ≡ sndcnt_limit_plus_smss_if_safe_ack smss self }
     {
         let unsent = self.prr_delivered.saturating_sub(self.prr_out);
         let octets = u64::from(unsent.max(self.delivered_data));

@@ -2,7 +2,7 @@
 ghost use Rattle.pd_reparse.specs.Laws.{ReadingsAreScripts, FirstEventsStay, FirstEventsOfScriptsStay, EventsAreChained};
 
 use pd_lex::law_first_lines_fix_tokens_in_order;
-use pd_script::law_reading_resumes_at_item_place;
+use pd_script::law_lexing_from_event_start_gives_same_items;
 
 /// A law, and no work: without what decided its events, the reading of a text is what the text is
 /// parsed as.
@@ -24,5 +24,5 @@ pub fn law_equal_first_lines_keep_first_events()
 pub fn law_events_are_chained()
     ensures { EventsAreChained }
 {
-    law_reading_resumes_at_item_place();
+    law_lexing_from_event_start_gives_same_items();
 }

@@ -1,4 +1,4 @@
-//! The reading of a text: its script, and which line decides each event.
+//! The reading of a text: its script, which line decides each event, and the line of the fault if it is refused.
 ghost use Rattle.std.specs.Prelude.{◌≡◌, ◌≤◌, ◌<◌, length, take, IfOk};
 ghost use Rattle.pd_lex.specs.declared.token.Place.{Place};
 ghost use Rattle.pd_reparse.specs.Reading.{last_place};

@@ -10,7 +10,7 @@ use crate::reread_result::Reread;
 use crate::shared_list::SharedList;
 use pd_lex::{Place, law_first_lines_fix_tokens_in_order};
 use pd_script::{
-    EventReader, Header, MAX_EVENTS, NextEventStatus, law_reading_resumes_at_item_place,
+    EventReader, Header, MAX_EVENTS, NextEventStatus, law_lexing_from_event_start_gives_same_items,
     read_header,
 };
 use pd_text::Lines;
@@ -35,7 +35,7 @@ pub fn read(alloc: Global, lines: &Lines) -> Result<Reading, AllocError>
 {
     let header = read_header(alloc, lines)?;
     let place = header.end();
-    read_remaining_events(alloc, lines, header, SharedList::new(alloc), place)
+    complete_reading_from_place(alloc, lines, header, SharedList::new(alloc), place)
 }
 
 /// Reads a text again whose first `same` lines are those of the text that was read before: the
@@ -56,7 +56,7 @@ pub fn reread(
 {
     // The laws of tokens do no work: what is kept rests on them.
     law_first_lines_fix_tokens_in_order();
-    law_reading_resumes_at_item_place();
+    law_lexing_from_event_start_gives_same_items();
     let kept = count_events_kept_by_same_first_lines(old, same);
     if kept == 0 {
         let reading = read(alloc, lines)?;
@@ -66,7 +66,7 @@ pub fn reread(
     let header = old.header().copy()?;
     let events = old.first_events(kept)?;
     let place = old.place_after_first_events(kept);
-    let reading = read_remaining_events(alloc, lines, header, events, place)?;
+    let reading = complete_reading_from_place(alloc, lines, header, events, place)?;
     Ok(Reread { reading, kept })
 }
 
@@ -80,7 +80,7 @@ fn count_events_kept_by_same_first_lines(old: &Reading, same: usize) -> usize
 }
 
 /// Reads the events from a place on, after a header and events that are known.
-fn read_remaining_events(
+fn complete_reading_from_place(
     alloc: Global,
     lines: &Lines,
     header: Header,
@@ -95,7 +95,7 @@ fn read_remaining_events(
     let mut reader = EventReader::at(lines, place);
     'events: for i in events.len()..MAX_EVENTS {
         let mut parsed_event = ParsedEvent::placeholder();
-        match read_parsed_event_into_or_stop(
+        match read_event_or_stop_at_end_fault_or_limit(
             alloc,
             &mut reader,
             MAX_EVENTS - i - 1,
@@ -117,7 +117,7 @@ fn count_lines_from(lines: &Lines, place: Place) -> usize
 }
 
 /// Reads the next event in the place of another, where so many more may follow it.
-fn read_parsed_event_into_or_stop(
+fn read_event_or_stop_at_end_fault_or_limit(
     alloc: Global,
     reader: &mut EventReader,
     more: usize,

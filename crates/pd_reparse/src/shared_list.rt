@@ -166,9 +166,14 @@ impl<T: TryClone + Drop> SharedList<T> {
             return Ok(SharedList::new(alloc));
         }
         let (whole, last) = locate_item(self.blocks.as_slice(), count - 1);
-        let mut blocks = shared_whole_first_blocks(alloc, self.blocks.as_slice(), whole)?;
+        let mut blocks = share_first_with_room_for_two_more(alloc, self.blocks.as_slice(), whole)?;
         let rest = if whole < self.blocks.len() {
-            share_or_clone_first(alloc, &mut blocks, &self.blocks[whole], last + 1)?
+            push_first_items_shared_or_return_clones(
+                alloc,
+                &mut blocks,
+                &self.blocks[whole],
+                last + 1,
+            )?
         } else {
             cloned_first_items(alloc, self.rest.as_slice(), last + 1)?
         };
@@ -198,7 +203,7 @@ fn locate_item<T: Drop>(blocks: &[SharedBlock<T>], index: usize) -> (usize, usiz
 }
 
 /// The first blocks, shared, with room for two more: one that is shared in part, and one of what is put after it.
-fn shared_whole_first_blocks<T: Drop>(
+fn share_first_with_room_for_two_more<T: Drop>(
     alloc: Global,
     blocks: &[SharedBlock<T>],
     count: usize,
@@ -215,7 +220,7 @@ fn shared_whole_first_blocks<T: Drop>(
 }
 
 /// Puts the first items of a block after these blocks where that pays, else gives copies of them.
-fn share_or_clone_first<T: TryClone + Drop>(
+fn push_first_items_shared_or_return_clones<T: TryClone + Drop>(
     alloc: Global,
     blocks: &mut Vec<SharedBlock<T>>,
     block: &SharedBlock<T>,

@@ -26,8 +26,8 @@ use Rattle.pd_match.specs.declared.kinds.Kind.{Kind}
 use Rattle.pd_run.specs.Prechecks.{failed_precheck}
 use Rattle.pd_run.specs.InboundSegment.{segment_in}
 use Rattle.pd_run.specs.Limits.{is_long, written_times, written_blocking_end, is_action_number_over_limit, is_any_event_number_over_limit}
-use Rattle.pd_run.specs.Step.{RunStateView, tolerance_of, comparison_noted, on_step, judged, with_state, action_time_not_before_clock, acted, arrives, on_arrival, answers, on_answer, on_expiry, expires, awaited, packet_taken, performed, unless_failed_precheck, perform_event_and_find_stop, at_line, step}
-use Rattle.pd_run.specs.Times.{is_single_moment, single_moment_or_base, time_range_of, is_not_too_late_within_tolerance, base_after_expected_packet}
+use Rattle.pd_run.specs.Step.{RunStateView, tolerance_of, comparison_noted, on_step, judged, with_state, action_time_not_before_clock, acted, arrives, on_arrival, answers, on_answer, on_expiry, expires, awaited, packet_taken, performed, unless_failed_precheck, precheck_then_perform_event_and_find_stop, at_line, step}
+use Rattle.pd_run.specs.Times.{is_single_moment, single_moment_or_base, time_range_of, is_not_too_late_within_tolerance, base_from_moment_or_later_of_base_and_sent}
 use Rattle.pd_run.specs.declared.prechecks.Precheck.{Precheck}
 use Rattle.pd_run.specs.declared.prechecks.Precheck.TheVariants.{OverLimit}
 use Rattle.pd_run.specs.declared.stop_reason.StopReason.{StopReason}
@@ -120,7 +120,7 @@ unbarred came None s h = (refl, h)
 unbarred came (Some bar) s h = absurd cc
 
 pub step_performs : (r s : RunStateView) (e : Event) → step r e ≡ Ok s → performed r e e.action ≡ Ok s
-step_performs r s e h = (unbarred (performed r e e.action) (failed_precheck r.base e) s (goes e.line (perform_event_and_find_stop r e) s h)).1
+step_performs r s e h = (unbarred (performed r e e.action) (failed_precheck r.base e) s (goes e.line (precheck_then_perform_event_and_find_stop r e) s h)).1
 
 -- its numbers are within their limits
 pub within_limits : (base : ℕ) (e : Event) → failed_precheck base e ≡ None → is_any_event_number_over_limit e ≡ false
@@ -132,7 +132,7 @@ within_limits base e h = go (is_any_event_number_over_limit e) _ h
 
 pub step_unlimited : (r s : RunStateView) (e : Event) → step r e ≡ Ok s → is_any_event_number_over_limit e ≡ false
 step_unlimited r s e h =
-    within_limits r.base e (unbarred (performed r e e.action) (failed_precheck r.base e) s (goes e.line (perform_event_and_find_stop r e) s h)).0
+    within_limits r.base e (unbarred (performed r e e.action) (failed_precheck r.base e) s (goes e.line (precheck_then_perform_event_and_find_stop r e) s h)).0
 
 step_short : (r s : RunStateView) (e : Event) → step r e ≡ Ok s → list_any is_long (written_times e.time) ≡ false
 step_short r s e h = or_false _ _ (or_false _ _ (step_unlimited r s e h))
@@ -209,7 +209,7 @@ module _ (K : ℕ → SenderState → Type 0) (laws : IsKept K) where
       → packet_taken e p r first ≡ Ok s → IsWithin K n s
   taken_within n r s e p None is within moment h = absurd cc
   taken_within n r s e p (Some sent) is within moment h =
-      let next : RunStateView = record r { host = without_oldest r.host; base = base_after_expected_packet r.base e.time sent.at } in
+      let next : RunStateView = record r { host = without_oldest r.host; base = base_from_moment_or_later_of_base_and_sent r.base e.time sent.at } in
       let same : next ≡ s = agreed next s _ (mismatch p (time_range_of r.base e.time) sent (tolerance_of r)) h in
       let clock : r.clock ≤ n = within.clock in
       let left : sent.at ≤ r.clock = oldest r.clock r.host.state.endpoint.outbox sent (laws.ordered r.clock r.host.state within.up_to) is in

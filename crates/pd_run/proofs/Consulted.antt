@@ -32,8 +32,8 @@ use Rattle.pd_run.specs.InboundSegment.{segment_in}
 use Rattle.pd_run.specs.Laws.{ToleranceStays}
 use Rattle.pd_run.specs.Prechecks.{failed_precheck}
 use Rattle.pd_run.specs.Run.{start_of, tolerance_in, states_from, states_in}
-use Rattle.pd_run.specs.Step.{RunStateView, tolerance_of, comparison_noted, on_step, judged, with_state, action_time_not_before_clock, acted, arrives, on_arrival, answers, on_answer, on_expiry, expires, awaited, packet_taken, leaves, performed, unless_failed_precheck, perform_event_and_find_stop, at_line, step}
-use Rattle.pd_run.specs.Times.{time_range_of, base_after_expected_packet, is_not_too_late_within_tolerance}
+use Rattle.pd_run.specs.Step.{RunStateView, tolerance_of, comparison_noted, on_step, judged, with_state, action_time_not_before_clock, acted, arrives, on_arrival, answers, on_answer, on_expiry, expires, awaited, packet_taken, leaves, performed, unless_failed_precheck, precheck_then_perform_event_and_find_stop, at_line, step}
+use Rattle.pd_run.specs.Times.{time_range_of, base_from_moment_or_later_of_base_and_sent, is_not_too_late_within_tolerance}
 use Rattle.pd_run.specs.declared.verdict.Verdict.{Verdict}
 use Rattle.pd_run.specs.declared.prechecks.Precheck.{Precheck}
 use Rattle.pd_run.specs.declared.stop_reason.StopReason.{StopReason}
@@ -136,7 +136,7 @@ answer_keeps laws r s e call (Err halt) is h = absurd cc
 taken_keeps : (r s : RunStateView) (e : Event) (p : Packet) (first : Option Sent) → packet_taken e p r first ≡ Ok s → Keeps r s
 taken_keeps r s e p None h = absurd cc
 taken_keeps r s e p (Some sent) h =
-    let next : RunStateView = record r { host = without_oldest r.host; base = base_after_expected_packet r.base e.time sent.at } in
+    let next : RunStateView = record r { host = without_oldest r.host; base = base_from_moment_or_later_of_base_and_sent r.base e.time sent.at } in
     subst (Keeps r) (agreed next s _ (mismatch p (time_range_of r.base e.time) sent (tolerance_of r)) h)
     (record { settings = refl; consulted_settings = includes_itself r.host.state.consulted_settings; header_tolerance = refl; used_tolerance = refl })
 
@@ -286,7 +286,7 @@ taken_again : (r s : RunStateView) (e : Event) (p : Packet) (b : Settings) (firs
     → packet_taken e p r first ≡ Ok s → packet_taken e p (run_with_settings b r) first ≡ again b s
 taken_again r s e p b None same h = absurd cc
 taken_again r s e p b (Some sent) same h =
-    let next : RunStateView = record r { host = without_oldest r.host; base = base_after_expected_packet r.base e.time sent.at } in
+    let next : RunStateView = record r { host = without_oldest r.host; base = base_from_moment_or_later_of_base_and_sent r.base e.time sent.at } in
     let time_range = time_range_of r.base e.time in
     ap (λ (x : ℕ). judged (run_with_settings b next) (λ kind. Differs kind sent (run_with_settings b r)) (mismatch p time_range sent x)) same
     ∙ judged_again next s b _ _ (mismatch p time_range sent (tolerance_of r)) h
@@ -359,7 +359,7 @@ steps_only_use laws r s e b h agree =
     let u : RunStateView = run_with_settings b r in
     ap (at_line e.line)
     (unbarred_too (failed_precheck r.base e) (performed r e e.action) (performed u e e.action) s (run_with_settings b s)
-    (λ k. performed_again laws r s e e.action b k agree) (goes e.line (perform_event_and_find_stop r e) s h))
+    (λ k. performed_again laws r s e e.action b k agree) (goes e.line (precheck_then_perform_event_and_find_stop r e) s h))
 
 -- Whole runs
 

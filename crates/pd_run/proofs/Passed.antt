@@ -19,7 +19,7 @@ use Rattle.pd_match.specs.Packets.{compared_fields, mismatch}
 use Rattle.pd_match.specs.declared.kinds.Kind.{Kind}
 use Rattle.pd_run.specs.Laws.{PassedPacketsAgree, unmatched, AreAwaited, PassedPacketsAreTaken, PassedCallsAnswer}
 use Rattle.pd_run.specs.Step.{RunStateView, tolerance_of, comparison_noted, on_step, with_state, judged, answers, on_answer, on_expiry, expires, awaited, packet_taken, performed}
-use Rattle.pd_run.specs.Times.{time_range_of, base_after_expected_packet, is_not_too_late_within_tolerance}
+use Rattle.pd_run.specs.Times.{time_range_of, base_from_moment_or_later_of_base_and_sent, is_not_too_late_within_tolerance}
 use Rattle.pd_run.specs.declared.stop_reason.StopReason.{StopReason}
 use Rattle.pd_run.proofs.Bounds.{given, agreed, in_reach, step_performs}
 
@@ -62,7 +62,7 @@ oldest_taken : (e : Event) (p : Packet) (t s : RunStateView) (packets : List Sen
     → (sent : Sent) × (unmatched t ≡ sent ∷ unmatched s)
 oldest_taken e p t s [] is h = absurd cc
 oldest_taken e p t s (sent ∷ packets) is h =
-    let next : RunStateView = record t { host = without_oldest t.host; base = base_after_expected_packet t.base e.time sent.at } in
+    let next : RunStateView = record t { host = without_oldest t.host; base = base_from_moment_or_later_of_base_and_sent t.base e.time sent.at } in
     let same : next ≡ s = agreed next s _ (mismatch p (time_range_of t.base e.time) sent (tolerance_of t)) h in
     let left : unmatched s ≡ packets = ap unmatched (sym same) ∙ ap (drop 1) is in
     (sent, is ∙ ap (λ (l : List Sent). sent ∷ l) (sym left))

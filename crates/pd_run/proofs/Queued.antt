@@ -31,7 +31,7 @@ use Rattle.pd_run.specs.InboundSegment.{segment_in}
 use Rattle.pd_run.specs.Inner.{SenderIsLawful}
 use Rattle.pd_run.specs.Limits.{is_write, is_count_over, is_action_number_over_limit}
 use Rattle.pd_run.specs.Step.{RunStateView, tolerance_of, comparison_noted, on_step, with_state, action_time_not_before_clock, acted, arrives, on_arrival, answers, on_answer, on_expiry, expires, awaited, packet_taken, performed, step}
-use Rattle.pd_run.specs.Times.{time_range_of, base_after_expected_packet, is_not_too_late_within_tolerance}
+use Rattle.pd_run.specs.Times.{time_range_of, base_from_moment_or_later_of_base_and_sent, is_not_too_late_within_tolerance}
 use Rattle.pd_run.specs.declared.stop_reason.StopReason.{StopReason}
 use Rattle.pd_run.proofs.Bounds.{given, agreed, both, action_within, in_reach, step_performs, step_unlimited}
 
@@ -149,7 +149,7 @@ after_call laws r s e call (Err halt) is within h = absurd cc
 after_taking : (r s : RunStateView) (e : Event) (p : Packet) (first : Option Sent) → packet_taken e p r first ≡ Ok s → end_of s ≡ end_of r
 after_taking r s e p None h = absurd cc
 after_taking r s e p (Some sent) h =
-    let next : RunStateView = record r { host = without_oldest r.host; base = base_after_expected_packet r.base e.time sent.at } in
+    let next : RunStateView = record r { host = without_oldest r.host; base = base_from_moment_or_later_of_base_and_sent r.base e.time sent.at } in
     ap end_of (sym (agreed next s _ (mismatch p (time_range_of r.base e.time) sent (tolerance_of r)) h))
 
 after_expiry : SenderIsLawful → (r s : RunStateView) (at : ℕ) (came : Result SenderState Halt) → advanced at r.host.state ≡ came

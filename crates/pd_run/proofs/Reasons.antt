@@ -14,15 +14,15 @@ use Rattle.pd_match.specs.Packets.{compared_fields, mismatch}
 use Rattle.pd_match.specs.declared.kinds.Kind.{Kind}
 use Rattle.pd_run.specs.Prechecks.{failed_precheck}
 use Rattle.pd_run.specs.RunStates.{RunStateView}
-use Rattle.pd_run.specs.Step.{tolerance_of, comparison_noted, on_step, judged, on_expiry, expires, awaited, packet_taken, leaves, performed, unless_failed_precheck, perform_event_and_find_stop, at_line}
-use Rattle.pd_run.specs.Times.{time_range_of, is_not_too_late_within_tolerance, base_after_expected_packet}
+use Rattle.pd_run.specs.Step.{tolerance_of, comparison_noted, on_step, judged, on_expiry, expires, awaited, packet_taken, leaves, performed, unless_failed_precheck, precheck_then_perform_event_and_find_stop, at_line}
+use Rattle.pd_run.specs.Times.{time_range_of, is_not_too_late_within_tolerance, base_from_moment_or_later_of_base_and_sent}
 use Rattle.pd_run.specs.StopReason.{verdict_at, verdict_by_step, ReasonsGiveVerdicts, DifferencesAreFirst}
 use Rattle.pd_run.specs.declared.prechecks.Precheck.{Precheck}
 use Rattle.pd_run.specs.declared.stop_reason.StopReason.{StopReason}
 use Rattle.pd_run.specs.declared.stop_reason.StopReason.TheVariants.{Missing, Differs}
 
 pub reasons_give_verdicts : ReasonsGiveVerdicts
-reasons_give_verdicts r e = by_end e.line (perform_event_and_find_stop r e)
+reasons_give_verdicts r e = by_end e.line (precheck_then_perform_event_and_find_stop r e)
   where
     by_end : (line : ℕ) (came : Result RunStateView StopReason) → option_map (verdict_at line) (result_err came) ≡ verdict_by_step (at_line line came)
     by_end line (Ok s) = refl
@@ -72,7 +72,7 @@ module _ (k : Kind) (sent : Sent) (q : RunStateView) where
 
   by_kind : (e : Event) (p : Packet) (r : RunStateView) (one : Sent) (difference : Option Kind)
       → mismatch p (time_range_of r.base e.time) one (tolerance_of r) ≡ difference
-      → Stops (judged (record r { host = without_oldest r.host; base = base_after_expected_packet r.base e.time one.at }) (λ kind. Differs kind one r) difference)
+      → Stops (judged (record r { host = without_oldest r.host; base = base_from_moment_or_later_of_base_and_sent r.base e.time one.at }) (λ kind. Differs kind one r) difference)
       → Compared e p r (Some one)
   by_kind e p r one None is h = absurd cc
   by_kind e p r one (Some kind) is h =
@@ -92,7 +92,7 @@ module _ (k : Kind) (sent : Sent) (q : RunStateView) where
 pub differences_are_first : MismatchIsFirst → DifferencesAreFirst
 differences_are_first law r q e p k sent is h =
     let done : performed r e e.action ≡ Err (Differs k sent q) =
-    by_action k sent q (performed r e e.action) (failed_precheck r.base e) (by_reason k sent q (perform_event_and_find_stop r e) h) in
+    by_action k sent q (performed r e e.action) (failed_precheck r.base e) (by_reason k sent q (precheck_then_perform_event_and_find_stop r e) h) in
     let left : leaves (comparison_noted r) e p ≡ Err (Differs k sent q) = ap (performed r e) (sym is) ∙ done in
     let found = by_leaving k sent q e p (comparison_noted r) (awaited (comparison_noted r) e) refl left in
     let same : found.0 ≡ q = found.2.0 in

@@ -22,7 +22,7 @@ use Rattle.pd_match.specs.declared.kinds.Kind.{Kind}
 use Rattle.pd_run.specs.Prechecks.{failed_precheck}
 use Rattle.pd_run.specs.InboundSegment.{segment_in}
 pub use Rattle.pd_run.specs.RunStates.{RunStateView}
-use Rattle.pd_run.specs.Times.{single_moment_or_base, time_range_of, is_not_too_late_within_tolerance, base_after_expected_packet}
+use Rattle.pd_run.specs.Times.{single_moment_or_base, time_range_of, is_not_too_late_within_tolerance, base_from_moment_or_later_of_base_and_sent}
 use Rattle.pd_run.specs.Verdicts.{verdict_at}
 use Rattle.pd_run.specs.declared.prechecks.Precheck.{Precheck}
 use Rattle.pd_run.specs.declared.prechecks.Precheck.TheVariants.{NotRun}
@@ -100,7 +100,7 @@ awaited r e = if length r.host.state.endpoint.outbox == 0 then expires r e (dead
 abbrev pub packet_taken : Event → Packet → RunStateView → Option Sent → Result RunStateView StopReason
 packet_taken e p r None = Err Missing
 packet_taken e p r (Some sent) =
-    judged (record r { host = without_oldest r.host; base = base_after_expected_packet r.base e.time sent.at }) (λ kind. Differs kind sent r)
+    judged (record r { host = without_oldest r.host; base = base_from_moment_or_later_of_base_and_sent r.base e.time sent.at }) (λ kind. Differs kind sent r)
     (mismatch p (time_range_of r.base e.time) sent (tolerance_of r))
 
 -- a packet is expected to have left
@@ -120,8 +120,8 @@ unless_failed_precheck came None = came
 unless_failed_precheck came (Some bar) = Err (FailedPrecheck bar)
 
 -- how an event ends: the run goes on in the next state, or stops for a reason
-abbrev pub perform_event_and_find_stop : RunStateView → Event → Result RunStateView StopReason
-perform_event_and_find_stop r e = unless_failed_precheck (performed r e e.action) (failed_precheck r.base e)
+abbrev pub precheck_then_perform_event_and_find_stop : RunStateView → Event → Result RunStateView StopReason
+precheck_then_perform_event_and_find_stop r e = unless_failed_precheck (performed r e e.action) (failed_precheck r.base e)
 
 -- the same with the reason's verdict at a line
 abbrev pub at_line : ℕ → Result RunStateView StopReason → Result RunStateView Verdict
@@ -130,11 +130,11 @@ at_line line (Err reason) = Err (verdict_at line reason)
 
 -- one event: the next state, or the verdict of a stop
 abbrev pub step : RunStateView → Event → Result RunStateView Verdict
-step r e = at_line e.line (perform_event_and_find_stop r e)
+step r e = at_line e.line (precheck_then_perform_event_and_find_stop r e)
 
 -- why a run stops at an event; nothing where it goes on
 abbrev pub stop_reason : RunStateView → Event → Option StopReason
-stop_reason r e = result_err (perform_event_and_find_stop r e)
+stop_reason r e = result_err (precheck_then_perform_event_and_find_stop r e)
 
 -- the answer of a step, and the state that it left where the run goes on
 abbrev pub IsStepEnd : Result RunStateView Verdict → StepEnd → RunStateView → Type 0

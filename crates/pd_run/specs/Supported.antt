@@ -9,12 +9,12 @@ use Rattle.pd_run.specs.Times.{is_single_moment}
 
 -- a packet that arrives and a call happen at one moment; a packet has none of the flags U, E, W and C; a call has a name
 -- and a shape that are run; a command and code aren't run
-abbrev pub is_action_supported : Time → Action → Bool
-is_action_supported time (Inbound p) = is_single_moment time && not p.flags.other
-is_action_supported time (Outbound p) = not p.flags.other
-is_action_supported time (Calls call) = is_single_moment time && is_some (syscall_of call)
-is_action_supported time _ = false
+abbrev pub is_time_and_action_shape_supported : Time → Action → Bool
+is_time_and_action_shape_supported time (Inbound p) = is_single_moment time && not p.flags.other
+is_time_and_action_shape_supported time (Outbound p) = not p.flags.other
+is_time_and_action_shape_supported time (Calls call) = is_single_moment time && is_some (syscall_of call)
+is_time_and_action_shape_supported time _ = false
 
 -- a shape that is run: such an action, without a blocking time
 abbrev pub is_shape_supported : Event → Bool
-is_shape_supported e = is_none e.blocking_end && is_action_supported e.time e.action
+is_shape_supported e = is_none e.blocking_end && is_time_and_action_shape_supported e.time e.action

@@ -24,10 +24,10 @@ time_range_of base (AbsoluteRange first last) = Some (first, last)
 time_range_of base (RelativeRange first last) = Some (base + first, base + last)
 
 -- an absolute time, or the first bound of an absolute range, lies below the base
-abbrev pub is_before_base : ℕ → Time → Bool
-is_before_base base (Absolute t) = nat_lt t base
-is_before_base base (AbsoluteRange first last) = nat_lt first base
-is_before_base base _ = false
+abbrev pub is_before_base_beyond_tolerance : ℕ → Time → Bool
+is_before_base_beyond_tolerance base (Absolute t) = nat_lt t base
+is_before_base_beyond_tolerance base (AbsoluteRange first last) = nat_lt first base
+is_before_base_beyond_tolerance base _ = false
 
 -- a moment at or before the last one and the tolerance; for `*` any moment
 abbrev pub is_not_too_late_within_tolerance : Option (ℕ × ℕ) → ℕ → ℕ → Bool
@@ -36,5 +36,5 @@ is_not_too_late_within_tolerance (Some time_range) tolerance at = nat_le at (tim
 
 -- the base after a packet that left at a moment: the event's time; after a range or `*` the later of the old base and
 -- that moment
-abbrev pub base_after_expected_packet : ℕ → Time → ℕ → ℕ
-base_after_expected_packet base time at = if is_single_moment time then single_moment_or_base base time else max base at
+abbrev pub base_from_moment_or_later_of_base_and_sent : ℕ → Time → ℕ → ℕ
+base_from_moment_or_later_of_base_and_sent base time at = if is_single_moment time then single_moment_or_base base time else max base at

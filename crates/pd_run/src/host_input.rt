@@ -9,7 +9,7 @@ ghost use Rattle.pd_run.specs.InboundSegment.{segment_in};
 ghost use Rattle.pd_run.specs.Limits.{is_packet_number_over_limit};
 
 use crate::inbound_segment::segment_of_script_packet;
-use crate::laws::law_sender_keeps_time_and_bounds_queueing;
+use crate::laws::law_sender_deadline_ahead_and_queue_bounded;
 use pd_host::{Host, HostEnd, SegmentCheck};
 use pd_script::{Call, Packet};
 use pd_seg::Answer;
@@ -28,7 +28,7 @@ pub fn arrive(host: &mut Host, packet: &Packet, at: u64) -> Result<(), HostEnd>
     host.advance(at)?;
     match segment_of_script_packet(host.outbox().allocator(), packet) {
         Ok(segment) => host.arrive(&segment, at),
-        Err(_) => Err(host.end_out_of_memory_unless_ended()),
+        Err(_) => Err(host.get_or_set_end_reason_to_out_of_memory()),
     }
 }
 
@@ -57,7 +57,7 @@ pub fn advance_host_and_call(host: &mut Host, call: &Call, now: u64) -> Result<A
     requires short { IsShort host.old.state }
     ensures { Answers host.old (λ s. then_on (called call.now now) (advanced now s)) result host.new }
 {
-    law_sender_keeps_time_and_bounds_queueing();
+    law_sender_deadline_ahead_and_queue_bounded();
     host.advance(now)?;
     host.call(call, now)
 }

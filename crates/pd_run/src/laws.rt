@@ -8,18 +8,18 @@ ghost use Rattle.pd_run.specs.StopReason.{ReasonsGiveVerdicts, DifferencesAreFir
 
 use pd_host::{
     law_calls_append_and_depend_on_consulted, law_expiries_append_in_order_without_settings,
-    law_outside_arrivals_harmless_exact_rst_resets, law_packets_in_order_and_deadline_ahead,
-    law_queued_octets_per_input_bounded,
+    law_outside_harmless_only_exact_rst_resets, law_packets_in_order_and_deadline_ahead,
+    law_send_buffer_growth_per_input_bounded,
 };
 use pd_match::law_first_mismatch_of_packets_and_calls;
-use pd_script::law_scripts_are_grammatical;
+use pd_script::law_parse_gives_the_only_grammatical_reading;
 
 /// The laws of the sender that runs rest on, whatever comes in.
-pub(crate) fn law_sender_keeps_time_and_bounds_queueing()
+pub(crate) fn law_sender_deadline_ahead_and_queue_bounded()
     ensures { SenderIsLawful }
 {
     law_packets_in_order_and_deadline_ahead();
-    law_queued_octets_per_input_bounded();
+    law_send_buffer_growth_per_input_bounded();
 }
 
 /// The laws of every step that goes on, whatever the checks and their order.
@@ -36,14 +36,14 @@ pub fn law_passed_events_match_expectations()
 /// How far along a run is after so many events: within the bounds that a step asks for, up to 4,096 of them, whatever
 /// settings it is put under on its way. And the timer of a run that is put under no others goes by those that it began
 /// under.
-pub fn law_runs_stay_in_step_bounds()
+pub fn law_clock_base_and_queue_bounded_per_event()
     ensures start { StartsUnderway }
     ensures step { StepsGoOn }
     ensures rebinding { OtherSettingsGoOn }
     ensures start_held { StartsHeld }
     ensures step_held { StepsStayHeld }
 {
-    law_sender_keeps_time_and_bounds_queueing();
+    law_sender_deadline_ahead_and_queue_bounded();
     law_inputs_use_only_noted_settings();
 }
 
@@ -52,7 +52,7 @@ pub fn law_verdicts_are_of_grammar_scripts()
     ensures given { VerdictsAreGrammatical }
     ensures only { NoOtherVerdicts }
 {
-    law_scripts_are_grammatical();
+    law_parse_gives_the_only_grammatical_reading();
 }
 
 /// A run that stops has a reason for it, with the verdict of that reason: looking into a stop and running to it agree.
@@ -68,7 +68,7 @@ pub fn law_verdicts_have_reasons()
 pub(crate) fn law_inputs_use_only_noted_settings()
     ensures { InputsOnlyUse }
 {
-    law_outside_arrivals_harmless_exact_rst_resets();
+    law_outside_harmless_only_exact_rst_resets();
     law_calls_append_and_depend_on_consulted();
     law_expiries_append_in_order_without_settings();
 }

@@ -2,7 +2,7 @@
 //!
 //! `run_all` gives the `Verdict` of a text. A `RunState` is what a run holds between two events:
 //! the host, the clock, the base of relative times, and the header's tolerance. A `Stepper` takes a
-//! run through one event at a time, and counts. `run_to_failure_on_line` and
+//! run through one event at a time, and counts. `run_to_stop_on_line` and
 //! `RunState::preview_stop_reason_at_event` look at an event that stops a run once more, and give the reason (`StopReason`) with the packet or the answer that
 //! differs.
 //!
@@ -25,12 +25,12 @@
 //! - The clock moves only by events, and by the expiries that an expected packet waits for. Nothing
 //!   waits, so a run takes the time of its steps, whatever times its script has, and has the same
 //!   verdict on any machine.
-//! - The verdict and its reason come from one function, `RunState::perform_event_and_find_stop`: `step` makes the
+//! - The verdict and its reason come from one function, `RunState::precheck_then_perform_event_and_find_stop`: `step` makes the
 //!   verdict of what it gives, and `preview_stop_reason_at_event` calls it on a copy. So an explanation can't be of another
 //!   stop (the law `law_verdicts_have_reasons`).
 //! - A step has conditions on its clock, its base and the queued octets; a run has none. Each event
 //!   moves clock and base, and queues octets, by no more than a limit, so a script's events can't
-//!   reach the bounds: the law `law_runs_stay_in_step_bounds`.
+//!   reach the bounds: the law `law_clock_base_and_queue_bounded_per_event`.
 //! - A run that is out of memory answers so to each further step. Nothing is promised of a run that
 //!   a verdict has stopped, so a step may leave it half done.
 //! - A `Stepper` is a trait with a count, so that contracts can say how many steps a call takes.
@@ -52,7 +52,7 @@ mod whole_run;
 
 pub use host_input::failed_check_of_arriving_packet;
 pub use laws::{
-    law_passed_events_match_expectations, law_runs_stay_in_step_bounds,
+    law_clock_base_and_queue_bounded_per_event, law_passed_events_match_expectations,
     law_runs_use_only_consulted_settings, law_verdicts_are_of_grammar_scripts,
     law_verdicts_have_reasons,
 };
@@ -61,11 +61,11 @@ pub use pd_match::Kind;
 pub use prechecks::{Precheck, failed_precheck};
 pub use run_state::RunState;
 pub use stepper::{Plain, StepEnd, Stepper};
-pub use stop_point::{StopPoint, preview_stop_reason_if_on_line, run_to_failure_on_line};
+pub use stop_point::{StopPoint, preview_stop_reason_if_on_line, run_to_stop_on_line};
 pub use stop_reason::StopReason;
 pub use times::{
-    base_after_expected_packet, is_not_too_late_within_tolerance, single_moment_or_base,
-    time_range_of,
+    base_from_moment_or_later_of_base_and_sent, is_not_too_late_within_tolerance,
+    single_moment_or_base, time_range_of,
 };
 pub use verdict::Verdict;
 pub use whole_run::{run_all, run_with_stepper};

@@ -1,4 +1,4 @@
-//! The limits of an event's numbers.
+//! The limits of an event's numbers, of how many options a packet has, and of how many blocks a SACK option has.
 ghost use Rattle.std.specs.Prelude.{◌≡◌};
 ghost use Rattle.std.specs.List.{list_any};
 ghost use Rattle.pd_run.specs.Limits.{is_long, written_times, written_blocking_end, is_present_number_over, is_block_over, is_option_over_limits, are_options_over_limits, is_packet_number_over_limit, is_write, is_count_over, is_action_number_over_limit, is_any_event_number_over_limit};

@@ -1,11 +1,11 @@
 //! Reasons for which an event isn't run, whatever the sender does.
 ghost use Rattle.std.specs.Prelude.{◌≡◌};
 ghost use Rattle.pd_run.specs.Prechecks.{failed_precheck};
-ghost use Rattle.pd_run.specs.Supported.{is_action_supported, is_shape_supported};
+ghost use Rattle.pd_run.specs.Supported.{is_time_and_action_shape_supported, is_shape_supported};
 ghost use Rattle.pd_run.specs.Verdicts.{precheck_verdict};
 
 use crate::limits::is_any_event_number_over_limit;
-use crate::times::{is_absolute_time_before_base, is_single_moment};
+use crate::times::{is_absolute_start_before_base, is_single_moment};
 use crate::verdict::Verdict;
 use pd_match::Kind;
 use pd_script::{Action, Event, Time};
@@ -44,7 +44,7 @@ pub fn failed_precheck(base: u64, event: &Event) -> Option<Precheck>
         Some(Precheck::OverLimit)
     } else if !is_shape_supported(event) {
         Some(Precheck::NotRun)
-    } else if is_absolute_time_before_base(base, event.time) {
+    } else if is_absolute_start_before_base(base, event.time) {
         Some(Precheck::Backwards)
     } else {
         None
@@ -55,11 +55,11 @@ pub fn failed_precheck(base: u64, event: &Event) -> Option<Precheck>
 pub fn is_shape_supported(event: &Event) -> bool
     ensures { result ≡ is_shape_supported event.now }
 {
-    event.blocking_end.is_none() && is_action_supported(event.time, &event.action)
+    event.blocking_end.is_none() && is_time_and_action_shape_supported(event.time, &event.action)
 }
 
-fn is_action_supported(time: Time, action: &Action) -> bool
-    ensures { result ≡ is_action_supported time action.now }
+fn is_time_and_action_shape_supported(time: Time, action: &Action) -> bool
+    ensures { result ≡ is_time_and_action_shape_supported time action.now }
 {
     match action {
         Action::Inbound(packet) => is_single_moment(time) && !packet.flags.other,

@@ -11,7 +11,7 @@ ghost use Rattle.pd_run.specs.Step.{tolerance_of, comparison_noted, action_time_
 
 mod events;
 
-use crate::laws::law_sender_keeps_time_and_bounds_queueing;
+use crate::laws::law_sender_deadline_ahead_and_queue_bounded;
 use crate::times::single_moment_or_base;
 use crate::verdict::Verdict;
 use pd_host::{ConnState, Host};
@@ -101,9 +101,9 @@ impl RunState {
         ensures ok { IfOk result (λ copy. copy ≡ self.now) }
         ensures again { self.now.host.end_reason ≡ Some OutOfMemory → IsErr result }
     {
-        let copied_heap_parts = self.host.copied_heap_parts()?;
+        let board_and_outbox_copies = self.host.board_and_outbox_copies()?;
         Ok(RunState {
-            host: self.host.with_heap_parts(copied_heap_parts),
+            host: self.host.with_heap_parts(board_and_outbox_copies),
             ..*self
         })
     }
@@ -127,7 +127,7 @@ impl RunState {
     pub fn set_settings(&mut self, settings: &Settings)
         ensures { self.new ≡ run_with_settings settings.now self.old }
     {
-        law_sender_keeps_time_and_bounds_queueing();
+        law_sender_deadline_ahead_and_queue_bounded();
         self.host.set_settings(settings);
     }
 

@@ -3,7 +3,7 @@ ghost use Rattle.std.specs.Prelude.{◌≡◌, ◌<◌, ◌≤◌, ◌^◌, None
 ghost use Rattle.pd_host.specs.Host.{IsShort, fresh_host};
 ghost use Rattle.pd_run.specs.StopPoints.{preview_stop_reason_if_on_line, stop_from, stop_in};
 
-use crate::laws::law_sender_keeps_time_and_bounds_queueing;
+use crate::laws::law_sender_deadline_ahead_and_queue_bounded;
 use crate::run_state::RunState;
 use crate::stepper::StepEnd;
 use crate::stop_reason::StopReason;
@@ -27,7 +27,7 @@ pub struct StopPoint {
 ///
 /// # Errors
 /// `AllocError` where a growth is refused.
-pub fn run_to_failure_on_line(
+pub fn run_to_stop_on_line(
     alloc: Global,
     parsed: &Parsed,
     settings: &Settings,
@@ -37,7 +37,7 @@ pub fn run_to_failure_on_line(
     ensures { IfOk result (λ stop. stop ≡ stop_in line settings.now parsed.now) }
 {
     match RunState::new(alloc, &parsed.header, settings) {
-        Ok(start) => run_events_to_failure_on_line(parsed.events.as_slice(), settings, start, line),
+        Ok(start) => run_events_to_stop_on_line(parsed.events.as_slice(), settings, start, line),
         Err(_) => Ok(None),
     }
 }
@@ -64,7 +64,7 @@ pub fn preview_stop_reason_if_on_line(
     }
 }
 
-fn run_events_to_failure_on_line(
+fn run_events_to_stop_on_line(
     events: &[Event],
     settings: &Settings,
     start: RunState,
@@ -76,7 +76,7 @@ fn run_events_to_failure_on_line(
     requires base { start.base ≡ 0 }
     ensures { IfOk result (λ stop. stop ≡ stop_from line 0 events.now start) }
 {
-    law_sender_keeps_time_and_bounds_queueing();
+    law_sender_deadline_ahead_and_queue_bounded();
     let mut state = start;
     let mut passed = 0;
     for event in events {

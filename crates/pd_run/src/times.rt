@@ -2,7 +2,7 @@
 ghost use Rattle.std.specs.Prelude.{◌≡◌, ◌<◌, ◌^◌, false};
 ghost use Rattle.std.specs.List.{list_any};
 ghost use Rattle.pd_run.specs.Limits.{is_long, written_times};
-ghost use Rattle.pd_run.specs.Times.{is_single_moment, single_moment_or_base, time_range_of, is_before_base, is_not_too_late_within_tolerance, base_after_expected_packet};
+ghost use Rattle.pd_run.specs.Times.{is_single_moment, single_moment_or_base, time_range_of, is_before_base_beyond_tolerance, is_not_too_late_within_tolerance, base_from_moment_or_later_of_base_and_sent};
 
 use pd_script::Time;
 
@@ -43,8 +43,8 @@ pub fn time_range_of(base: u64, time: Time) -> Option<(u64, u64)>
 }
 
 /// Whether an absolute time, or the first bound of an absolute range, lies before the base.
-pub fn is_absolute_time_before_base(base: u64, time: Time) -> bool
-    ensures { result ≡ is_before_base base time }
+pub fn is_absolute_start_before_base(base: u64, time: Time) -> bool
+    ensures { result ≡ is_before_base_beyond_tolerance base time }
 {
     match time {
         Time::Absolute(t) => t < base,
@@ -70,10 +70,10 @@ pub fn is_not_too_late_within_tolerance(
 
 /// The base after an expected packet with a time that met one which left at a moment: the time's moment where it is one, else
 /// the later of the base and that moment.
-pub fn base_after_expected_packet(base: u64, time: Time, at: u64) -> u64
+pub fn base_from_moment_or_later_of_base_and_sent(base: u64, time: Time, at: u64) -> u64
     requires base { base < 2 ^ 61 }
     requires short { list_any is_long (written_times time) ≡ false }
-    ensures { result ≡ base_after_expected_packet base time at }
+    ensures { result ≡ base_from_moment_or_later_of_base_and_sent base time at }
 {
     if is_single_moment(time) {
         single_moment_or_base(base, time)

@@ -4,7 +4,9 @@ ghost use Rattle.pd_host.specs.Host.{fresh_host};
 ghost use Rattle.pd_run.specs.Grammatical.{IsVerdictOf};
 ghost use Rattle.pd_run.specs.Run.{verdict_of, stepped_of, verdict_from, stepped_from};
 
-use crate::laws::{law_sender_keeps_time_and_bounds_queueing, law_verdicts_are_of_grammar_scripts};
+use crate::laws::{
+    law_sender_deadline_ahead_and_queue_bounded, law_verdicts_are_of_grammar_scripts,
+};
 use crate::run_state::RunState;
 use crate::stepper::{Plain, StepEnd, Stepper};
 use crate::verdict::Verdict;
@@ -66,7 +68,7 @@ fn run_events<S: Stepper>(
     ensures steps { OnOk result (S.counted stepper.new ≡ S.counted stepper.old + stepped_from events.now start) }
     ensures few { OnOk result (S.counted stepper.new ≤ S.counted stepper.old + 4096) }
 {
-    law_sender_keeps_time_and_bounds_queueing();
+    law_sender_deadline_ahead_and_queue_bounded();
     let mut state = start;
     let mut passed = 0;
     for event in events {

@@ -1,4 +1,4 @@
-//! Arguments, as far as they are read.
+//! Arguments as far as they are read: none, a number, a word, a number in square brackets, or anything else.
 ghost use Rattle.std.specs.Prelude.{◌≡◌, false};
 
 use crate::brackets::OpenPairs;

@@ -114,7 +114,11 @@ impl OpenPairs {
     /// # Errors
     /// `Syntax` where the token opens a pair while so many are open, or closes another than the innermost, or none is open.
     #[inline(always)]
-    pub fn update_by_token(&mut self, token: &Token, most: usize) -> Result<(), ParseError>
+    pub fn update_by_token_within_depth(
+        &mut self,
+        token: &Token,
+        most: usize,
+    ) -> Result<(), ParseError>
         requires { most ≤ 16 }
         ensures ok { OnOk result (pairs_after most self.old (shown token.now) ≡ Some self.new) }
         ensures err { OnErr result (pairs_after most self.old (shown token.now) ≡ None) }

@@ -10,7 +10,8 @@ use crate::argument_builder::BracketContext;
 use crate::brackets::{MAX_DEPTH, OpenPairs};
 use crate::parse_error::ParseError;
 use pd_lex::{
-    Lexed, Lookahead, Place, next_token_and_its_end_line, replace_lookahead_by_next_token_from,
+    Lexed, Lookahead, Place, advance_lookahead_from_place_in_its_line,
+    next_token_and_octets_of_its_end_line,
 };
 use pd_text::Lines;
 use std::marker::Model;
@@ -44,7 +45,7 @@ impl<'a> Cursor<'a> {
     {
         Cursor {
             lines,
-            lookahead: next_token_and_its_end_line(lines, place),
+            lookahead: next_token_and_octets_of_its_end_line(lines, place),
         }
     }
 
@@ -89,7 +90,7 @@ impl<'a> Cursor<'a> {
         ensures { self.new ≡ after_token self.old }
     {
         if let Lexed::Token(token) = self.lookahead.next {
-            replace_lookahead_by_next_token_from(self.lines, token.to, &mut self.lookahead);
+            advance_lookahead_from_place_in_its_line(self.lines, token.to, &mut self.lookahead);
         }
     }
 
@@ -108,7 +109,10 @@ impl<'a> Cursor<'a> {
     ///
     /// # Errors
     /// `Syntax` where no token comes next, or its bracket doesn't go with the open pairs; the cursor stays there.
-    pub fn take_note_token(&mut self, pairs: OpenPairs) -> Result<OpenPairs, ParseError>
+    pub fn take_note_token_giving_open_pairs(
+        &mut self,
+        pairs: OpenPairs,
+    ) -> Result<OpenPairs, ParseError>
         ensures { Leaves result self.new (note_part_at pairs self.old) }
     {
         let Lexed::Token(token) = self.lookahead.next else {
@@ -116,7 +120,7 @@ impl<'a> Cursor<'a> {
         };
         let mut pairs = pairs;
         // The note's own brackets are a pair, too.
-        pairs.update_by_token(&token, MAX_DEPTH - 1)?;
+        pairs.update_by_token_within_depth(&token, MAX_DEPTH - 1)?;
         self.advance();
         Ok(pairs)
     }
@@ -126,13 +130,16 @@ impl<'a> Cursor<'a> {
     /// # Errors
     /// `Syntax` where no token comes next, or its bracket doesn't go with the open pairs; the cursor stays there.
     #[inline(always)]
-    pub fn take_argument_token(&mut self, inside: &mut BracketContext) -> Result<(), ParseError>
+    pub fn take_argument_token_into_context(
+        &mut self,
+        inside: &mut BracketContext,
+    ) -> Result<(), ParseError>
         ensures { Moves result inside.new self.new (part_at inside.old self.old) }
     {
         let Lexed::Token(token) = &self.lookahead.next else {
             return Err(ParseError::Syntax);
         };
-        inside.pairs.update_by_token(token, MAX_DEPTH)?;
+        inside.pairs.update_by_token_within_depth(token, MAX_DEPTH)?;
         inside.builder.add_token(token);
         self.advance_inline();
         Ok(())

@@ -6,7 +6,7 @@ ghost use Rattle.pd_script.specs.Next.{next_in, lookahead_line_of, with_event, I
 use crate::cursor::Cursor;
 use crate::parse_error::ParseError;
 use crate::script_events::Event;
-use pd_lex::{Place, law_items_after_token_follow_its_end};
+use pd_lex::{Place, law_lexing_resumes_at_token_end};
 use pd_text::Lines;
 use std::alloc::{AllocError, Global};
 use std::marker::Model;
@@ -161,7 +161,7 @@ pub fn next_event(alloc: Global, lines: &Lines, place: Place) -> Result<NextEven
     ensures goes_on { IfOk result (GoesOn lines.now place) }
 {
     // The law of tokens does no work: that what is left is at its place rests on it.
-    law_items_after_token_follow_its_end();
+    law_lexing_resumes_at_token_end();
     lines.law_invariant();
     let next = Cursor::at(lines, place).next_event(alloc)?;
     Ok(next)

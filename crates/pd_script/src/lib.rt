@@ -6,7 +6,7 @@
 //! command, or code. An `EventReader` reads one event after the other from any place of a text.
 //!
 //! A text is read as what the grammar gives for it, and the grammar gives one reading: `IsScriptOf`
-//! (specs/Faults.antt), the law `law_scripts_are_grammatical`. The fault is the first token at which no
+//! (specs/Faults.antt), the law `law_parse_gives_the_only_grammatical_reading`. The fault is the first token at which no
 //! script goes on: `IsFault`.
 //!
 //! Why it is so:
@@ -58,5 +58,7 @@ pub use parsed::Parsed;
 pub use read_script::{MAX_EVENTS, parse};
 pub use script_events::{Action, Event, Events};
 pub use script_header::{Header, HeaderItem, HeaderKind};
-pub use script_laws::{law_reading_resumes_at_item_place, law_scripts_are_grammatical};
+pub use script_laws::{
+    law_lexing_from_event_start_gives_same_items, law_parse_gives_the_only_grammatical_reading,
+};
 pub use timing::{BlockingEnd, Time};

@@ -40,7 +40,7 @@ impl<'a> Cursor<'a> {
         let mut inside = BracketContext::at_start();
         'tokens: loop {
             if !self.is_at_argument_end(&inside) {
-                self.take_argument_token(&mut inside)?;
+                self.take_argument_token_into_context(&mut inside)?;
                 continue;
             }
             if inside.builder.is_empty() {
@@ -77,7 +77,7 @@ impl<'a> Cursor<'a> {
                 self.advance();
                 return Ok(());
             }
-            pairs = self.take_note_token(pairs)?;
+            pairs = self.take_note_token_giving_open_pairs(pairs)?;
         }
     }
 }

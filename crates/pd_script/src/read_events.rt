@@ -88,7 +88,7 @@ impl<'a> Cursor<'a> {
     /// Takes the result of a call.
     #[tactic(auto, unfolding(crate::specs::EventReading::expected_result_at))]
     #[inline(always)]
-    fn take_expected_result(&mut self) -> Result<ExpectedResult, ParseError>
+    fn take_expected_int_hex_or_negative_result(&mut self) -> Result<ExpectedResult, ParseError>
         ensures { Leaves result self.new (expected_result_at self.old) }
     {
         if self.is_next_int_within_u32() {
@@ -108,7 +108,7 @@ impl<'a> Cursor<'a> {
 
     /// Goes over a note.
     #[tactic(auto, unfolding(crate::specs::EventReading::note_at))]
-    fn skip_note(&mut self) -> Result<(), ParseError>
+    fn skip_note_or_syntax_error(&mut self) -> Result<(), ParseError>
         ensures { Leaves result self.new (note_at self.old) }
     {
         self.take_this_symbol_giving_line(b'(')?;
@@ -124,9 +124,9 @@ impl<'a> Cursor<'a> {
         self.take_this_symbol_giving_line(b'(')?;
         let arguments = self.take_arguments_and_closing_bracket(alloc)?;
         self.take_this_symbol_giving_line(b'=')?;
-        let result = self.take_expected_result()?;
+        let result = self.take_expected_int_hex_or_negative_result()?;
         if self.is_symbol(b'(') {
-            self.skip_note()?;
+            self.skip_note_or_syntax_error()?;
         }
         Ok(Call {
             function,

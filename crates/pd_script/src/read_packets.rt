@@ -14,7 +14,7 @@ use std::alloc::Global;
 
 impl<'a> Cursor<'a> {
     #[tactic(auto, using(crate::proofs::Symbols::one_octet), unfolding(crate::specs::PacketReading::flags_at, pd_lex::specs::Lexing::lexeme_of))]
-    fn take_flags(&mut self) -> Result<PacketFlags, ParseError>
+    fn take_dash_dot_or_lettered_flags(&mut self) -> Result<PacketFlags, ParseError>
         ensures { Leaves result self.new (flags_at self.old) }
     {
         match self.peek() {
@@ -175,7 +175,10 @@ impl<'a> Cursor<'a> {
     }
 
     /// Takes options up to the bracket that ends them.
-    fn take_options_to_closing_bracket(&mut self, alloc: Global) -> Result<Options, ParseError>
+    fn take_listed_options_to_closing_bracket(
+        &mut self,
+        alloc: Global,
+    ) -> Result<Options, ParseError>
         ensures { Leaves result self.new (list_at self.old) }
     {
         if self.is_symbol(b'>') {
@@ -189,7 +192,7 @@ impl<'a> Cursor<'a> {
 
     /// Takes the options, if any are written.
     #[tactic(auto, unfolding(crate::specs::PacketReading::options_at))]
-    fn take_options_or_absent(
+    fn take_options_listed_absent_or_any_if_outbound(
         &mut self,
         alloc: Global,
         inbound: bool,
@@ -205,7 +208,7 @@ impl<'a> Cursor<'a> {
             self.take_this_symbol_giving_line(b'>')?;
             return Ok(Options::Any);
         }
-        self.take_options_to_closing_bracket(alloc)
+        self.take_listed_options_to_closing_bracket(alloc)
     }
 
     /// Takes a packet; an inbound one has a window and lists its options.
@@ -216,11 +219,11 @@ impl<'a> Cursor<'a> {
     pub fn take_packet(&mut self, alloc: Global, inbound: bool) -> Result<Packet, ParseError>
         ensures { Leaves result self.new (packet_at inbound self.old) }
     {
-        let flags = self.take_flags()?;
+        let flags = self.take_dash_dot_or_lettered_flags()?;
         let (start, end, length) = self.take_seq_range_and_length()?;
         let ack = self.take_ack()?;
         let win = self.take_win_if_inbound_or_written(inbound)?;
-        let options = self.take_options_or_absent(alloc, inbound)?;
+        let options = self.take_options_listed_absent_or_any_if_outbound(alloc, inbound)?;
         Ok(Packet {
             flags,
             start,

@@ -1,4 +1,4 @@
-//! Reading a whole script.
+//! Reading a whole script; of a text that is none, what stands before its fault, and the line of the fault.
 ghost use Rattle.std.specs.Prelude.{◌≡◌, ◌≤◌, length, IfOk};
 ghost use Rattle.pd_lex.specs.Places.{first_place};
 ghost use Rattle.pd_lex.specs.Lexing.{items};

@@ -1,4 +1,4 @@
-//! Why a report isn't shown.
+//! Why a report isn't shown: faults, each printed as its number and name.
 ghost use Rattle.std.specs.Prelude.{◌≡◌};
 ghost use Rattle.pd_seat.specs.Faults.{show_fault_text};
 

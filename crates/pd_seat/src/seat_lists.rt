@@ -52,7 +52,7 @@ pub fn remove_open_job_number(open_jobs: &mut Vec<u64>, number: u64)
 ///
 /// # Errors
 /// `AllocError` where the job isn't open and a growth is refused.
-pub fn reserve_end_act_unless_job_open(
+pub fn reserve_end_act_if_job_not_open_at_seat(
     own: &mut Vec<Act>,
     open_jobs: &[u64],
     number: u64,

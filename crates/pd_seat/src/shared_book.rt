@@ -1,4 +1,4 @@
-//! The book that callers share, and the seat that made each of its acts.
+//! The book that callers share, and each act's seat. `show` isn't an act; it compares acts and the longest history shown.
 ghost use Rattle.std.specs.Prelude.{◌≡◌, ◌≢◌, ◌↔◌, ◌≤◌, true, [], length, is_some, option_map, IsTrue, IfOk, IfSome, IfNone, OnOk, OnErr, IsSomeAnd, Err, None};
 ghost use Rattle.pd_settings.specs.Keys.{key_named};
 ghost use Rattle.pd_book.specs.Acts.{next, job, present_text};
@@ -12,8 +12,8 @@ ghost use Rattle.pd_seat.specs.Seats.{new_seats, IsNew, RecordsAct, Unless, is_u
 use crate::faults::ShowFault;
 use crate::seat::Seat;
 use crate::seat_lists::{
-    push_act, push_noted_seat_number, remove_open_job_number, reserve_end_act_unless_job_open,
-    reserve_many_notes_and_acts,
+    push_act, push_noted_seat_number, remove_open_job_number,
+    reserve_end_act_if_job_not_open_at_seat, reserve_many_notes_and_acts,
 };
 use crate::verify::are_seat_acts_as_noted;
 use pd_book::{Act, Book, BookFault, Done, FinishFault, Job, Report, Ruling, SharedEdit};
@@ -241,7 +241,11 @@ impl Held {
         if !self.book.is_outstanding(done.number()) {
             return Err(FinishFault::NoSuchJob);
         }
-        reserve_end_act_unless_job_open(&mut seat.own, seat.open_jobs.as_slice(), done.number())?;
+        reserve_end_act_if_job_not_open_at_seat(
+            &mut seat.own,
+            seat.open_jobs.as_slice(),
+            done.number(),
+        )?;
         let ruling = self.book.finish(done)?;
         self.book.law_invariant();
         push_noted_seat_number(&mut self.notes, seat.number);
@@ -274,7 +278,7 @@ impl Held {
         if !self.book.is_outstanding(number) {
             return Err(FinishFault::NoSuchJob);
         }
-        reserve_end_act_unless_job_open(&mut seat.own, seat.open_jobs.as_slice(), number)?;
+        reserve_end_act_if_job_not_open_at_seat(&mut seat.own, seat.open_jobs.as_slice(), number)?;
         self.book.abandon(number)?;
         self.book.law_invariant();
         push_noted_seat_number(&mut self.notes, seat.number);

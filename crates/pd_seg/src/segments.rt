@@ -3,6 +3,7 @@ ghost use Rattle.std.specs.Prelude.{◌≡◌, ◌-◌, ◌↔◌, IsTrue, IfOk}
 
 use crate::flags::Flags;
 use crate::option_list::SegOptions;
+use crate::send_rule::SendRule;
 use std::alloc::AllocError;
 
 /// A TCP segment. Sequence numbers are relative, both initial ones at 0.
@@ -22,13 +23,15 @@ pub struct Segment {
     pub options: SegOptions,
 }
 
-/// A segment that was put out, and when.
+/// A segment that was put out, when, and by which rule.
 #[derive(Drop)]
 pub struct Sent {
     /// The segment.
     pub segment: Segment,
     /// Microseconds since the start of the run.
     pub at: u64,
+    /// The rule that let it go.
+    pub rule: SendRule,
 }
 
 impl Segment {
@@ -70,14 +73,14 @@ impl Segment {
 }
 
 impl Sent {
-    /// Whether both agree in the segment and the moment.
+    /// Whether both agree in the segment, the moment and the rule.
     pub fn is_same(&self, other: &Sent) -> bool
         ensures { IsTrue result ↔ (self.now ≡ other.now) }
     {
-        self.at == other.at && self.segment.is_same(&other.segment)
+        self.at == other.at && self.rule == other.rule && self.segment.is_same(&other.segment)
     }
 
-    /// The same segment with the same time once more.
+    /// The same segment with the same time and rule once more.
     ///
     /// # Errors
     /// `AllocError` where a growth is refused.
@@ -88,6 +91,7 @@ impl Sent {
         Ok(Sent {
             segment: self.segment.copy()?,
             at: self.at,
+            rule: self.rule,
         })
     }
 }

@@ -100,7 +100,7 @@ impl Settings {
     }
 
     /// The invariant of settings: they lie in their ranges. It does nothing.
-    pub fn law_invariant(&self)
+    pub fn law_ssthresh_and_rto_bounds_are_allowed(&self)
         ensures initial_ssthresh { Allows (allowed_values_of InitialSsthresh) (Number self.now.initial_ssthresh) }
         ensures min_rto_us { Allows (allowed_values_of MinRtoUs) (Number self.now.min_rto_us) }
         ensures max_rto_us { Allows (allowed_values_of MaxRtoUs) (Number self.now.max_rto_us) }
@@ -162,10 +162,10 @@ impl Settings {
         if !key.allowed_values().contains_number(number) {
             return None;
         }
-        self.with_number_if_number_key(key, number)
+        self.with_number_trusting_allowed_range(key, number)
     }
 
-    fn with_number_if_number_key(&self, key: Key, number: u64) -> Option<Settings>
+    fn with_number_trusting_allowed_range(&self, key: Key, number: u64) -> Option<Settings>
         requires { Allows (allowed_values_of key) (Number number) }
         ensures { result ≡ replaced self.now key (Number number) }
     {

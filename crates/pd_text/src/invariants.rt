@@ -1,4 +1,4 @@
-//! The invariants of lists of lines, texts and edits; the functions do nothing.
+//! Invariants as laws that do no work: no line of a text or an edit holds a newline, and a text keeps its limits.
 ghost use Rattle.pd_text.specs.Text.{AreLines, IsText};
 
 use crate::line_edit::LineEdit;

@@ -66,7 +66,7 @@ impl LineList {
     ///
     /// # Errors
     /// As for `push`; the list is as before then.
-    pub fn push_unless_newline_inside(&mut self, octets: &[u8]) -> Result<(), AllocError>
+    pub fn push_or_ignore_if_newline_inside(&mut self, octets: &[u8]) -> Result<(), AllocError>
         ensures ok { OnOk result (self.new ≡ (if has_no_newline octets.now then self.old ++ octets.now ∷ [] else self.old)) }
         ensures same { OnErr result (self.new ≡ self.old) }
     {

@@ -1,4 +1,4 @@
-//! Texts: lists of lines within the limits.
+//! Texts: lists of lines within the limits; line numbers begin at 1.
 ghost use Rattle.std.specs.Prelude.{◌≡◌, ◌+◌, ◌-◌, ◌≤◌, true, take, drop, length, IfOk, IfErr, IsTrue, Err, None, unwrap_or, nat_le, if◌then◌else◌, option_copied, slice_get, ◌↔◌};
 ghost use Rattle.pd_text.specs.Text.{common_prefix, AreLines, FitsText};
 ghost use Rattle.pd_text.specs.Edit.{is_edit_in_range, edited, edit_refusal};

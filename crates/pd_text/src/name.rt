@@ -1,4 +1,4 @@
-//! The names of scripts.
+//! The names of scripts and settings as given, valid or not; is_valid asks whether one may name a script.
 ghost use Rattle.std.specs.Prelude.{◌≡◌, ◌↔◌, IfOk, IsTrue};
 ghost use Rattle.std.specs.List.{list_all};
 ghost use Rattle.pd_text.specs.Name.{is_name_octet, is_valid_name};

@@ -65,7 +65,7 @@ impl Rto {
         ensures value { result ≡ initial settings.now.min_rto_us settings.now.max_rto_us }
         ensures known { IsRtoView result }
     {
-        settings.law_invariant();
+        settings.law_ssthresh_and_rto_bounds_are_allowed();
         Rto {
             estimate: None,
             rto: clamp(

@@ -1,4 +1,4 @@
-//! Jobs: what is to be run.
+//! Jobs: a task to run, perhaps an earlier run's track, and `same`, how many first lines of their two texts are equal.
 ghost use Rattle.std.specs.Prelude.{◌≡◌, option_copied, option_map};
 ghost use Rattle.pd_track.specs.Reuse.{front_of};
 

@@ -7,7 +7,7 @@ ghost use Rattle.pd_track.specs.Reuse.{every_fourth};
 
 use crate::checkpoint::Checkpoint;
 use pd_reparse::{ParsedEvent, SharedList};
-use pd_run::{RunState, StepEnd, Stepper, Verdict, law_runs_stay_in_step_bounds};
+use pd_run::{RunState, StepEnd, Stepper, Verdict, law_clock_base_and_queue_bounded_per_event};
 use pd_settings::Settings;
 use std::alloc::{AllocError, Global};
 
@@ -65,7 +65,7 @@ impl Progress {
         ensures steps { OnOk result (S.counted stepper.new ≡ S.counted stepper.old + stepped_from (events_after self.passed events.now) self.state) }
         ensures few { OnOk result (S.counted stepper.new ≤ S.counted stepper.old + length events.now) }
     {
-        law_runs_stay_in_step_bounds();
+        law_clock_base_and_queue_bounded_per_event();
         self.checkpoints.reserve((events.len() - self.passed) / 4)?;
         for i in self.passed..events.len() {
             match stepper.step(&mut self.state, &events.at(i).event, settings)? {

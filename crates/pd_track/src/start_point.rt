@@ -13,7 +13,9 @@ use crate::job::Job;
 use crate::progress::Progress;
 use crate::track::Track;
 use pd_reparse::{Reread, SharedList, law_equal_first_lines_keep_first_events, read, reread};
-use pd_run::{RunState, law_runs_stay_in_step_bounds, law_runs_use_only_consulted_settings};
+use pd_run::{
+    RunState, law_clock_base_and_queue_bounded_per_event, law_runs_use_only_consulted_settings,
+};
 use pd_settings::{SettingSet, Settings};
 use pd_text::Text;
 use std::alloc::{AllocError, Global};
@@ -89,7 +91,7 @@ fn begin_at_first_event(
     ensures passed { IfOk result (λ p. p.passed ≡ 0) }
     ensures resumes { IfOk result (λ p. Resumes _text.now settings.now p.passed p.state p.checkpoints) }
 {
-    law_runs_stay_in_step_bounds();
+    law_clock_base_and_queue_bounded_per_event();
     Ok(Progress::new(
         alloc,
         RunState::fresh_run(alloc, header_tolerance, settings),
@@ -115,11 +117,11 @@ fn begin_at_usable_checkpoint_or_start(
         return begin_at_first_event(alloc, text, settings, header_tolerance);
     }
     law_equal_first_lines_keep_first_events();
-    law_runs_stay_in_step_bounds();
+    law_clock_base_and_queue_bounded_per_event();
     track.text().law_invariant();
     text.law_invariant();
     law_runs_use_only_consulted_settings();
-    let checkpoints = first_checkpoints(track, count)?;
+    let checkpoints = share_first_checkpoints(track, count)?;
     // A question mark would move the state once more.
     match run_state_at_checkpoint(track, count).copy() {
         Ok(mut state) => {
@@ -201,7 +203,10 @@ fn run_state_at_checkpoint(track: &Track, count: usize) -> &RunState
 }
 
 /// The track's first states, shared.
-fn first_checkpoints(track: &Track, count: usize) -> Result<SharedList<Checkpoint>, AllocError>
+fn share_first_checkpoints(
+    track: &Track,
+    count: usize,
+) -> Result<SharedList<Checkpoint>, AllocError>
     requires { count ≤ length (every_fourth 3 (states_of track.now.text track.now.settings)) }
     ensures states { IfOk result (λ shared. map (run_with_settings track.now.settings) shared ≡ take count (every_fourth 3 (states_of track.now.text track.now.settings))) }
     ensures held { IfOk result (λ shared. AgreeWhereConsulted track.now.settings shared) }

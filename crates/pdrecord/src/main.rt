@@ -23,7 +23,7 @@
 //!   so contracts cover the output, whatever the files hold.
 //! - Lines of a trace are left out as they are read, so that a trace of a trace is the same.
 //!   Refusals name the lines of the input as it was given, so `ScriptInput` keeps their numbers.
-//! - It explains a refusal by the cause that `pd_explain` finds in a run, in the same terms
+//! - It explains a refusal by the cause that `pd_cause` finds in a run, in the same terms
 //!   (`stop_cause`), so that a script that isn't recorded is explained as a row is.
 #![tactic(auto)]
 

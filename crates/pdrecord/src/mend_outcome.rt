@@ -9,7 +9,8 @@ use crate::outcome::{
 };
 use crate::script_input::ScriptInput;
 use crate::trace_text::recording_octets;
-use pd_explain::{cause_text, explain_by_rerun_unless_pass};
+use pd_cause::explain_by_rerun_unless_pass;
+use pd_explain::cause_text;
 use pd_mend::{MendError, Mended, Unmendable, mend_script};
 use pd_protocol::{ServeFault, put_verdict};
 use pd_record::{RecordError, Recording};

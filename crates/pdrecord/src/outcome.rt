@@ -1,4 +1,4 @@
-//! The outcome of a script.
+//! A script's outcome: the octets of its recording, or the line `pdrecord: REASON` of a refusal with those that explain it.
 ghost use Rattle.std.specs.Prelude.{◌≡◌, ℕ, List, IfOk, IfErr, codes};
 ghost use Rattle.pd_explain.specs.BlockLines.{AreIndented};
 ghost use Rattle.pd_protocol.specs.Verdicts.{verdict_text};

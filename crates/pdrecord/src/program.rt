@@ -17,8 +17,8 @@ use crate::record_options::{RecordMode, RecordOptions, parse_record_options};
 use crate::script_input::ScriptInput;
 use crate::trace_text::recording_octets;
 use pd_protocol::{
-    Exit, FAULT_STATUS, InputStream, ProgramFault, ServeFault, settings_from_toml, try_write,
-    write_all_without_flush, write_clap_error_and_return_fault_exit,
+    Exit, FAULT_STATUS, InputStream, ProgramFault, ServeFault, settings_from_toml,
+    write_all_or_false, write_all_without_flush, write_clap_error_to_err_and_return_fault_exit,
     write_fault_and_return_fault_exit,
 };
 use pd_record::{RecordError, record_script_text};
@@ -69,7 +69,7 @@ pub fn run_arguments_with_file_access<
 {
     match parse_record_options(alloc, arguments) {
         Ok(options) => record_named_files_or_input(alloc, &options, reader, files, out, err),
-        Err(error) => write_clap_error_and_return_fault_exit(alloc, PROGRAM, &error, err),
+        Err(error) => write_clap_error_to_err_and_return_fault_exit(alloc, PROGRAM, &error, err),
     }
 }
 
@@ -152,7 +152,7 @@ fn exit_with_file_fault<E: Write>(stop: FileFault<'_>, err: &mut E) -> Exit
     ensures status { result.status ≡ 2 }
     ensures stderr { WritesTo result.stderr_ok (E.contents err.old) (E.contents err.new) (file_fault_line stop.entry.name.now stop.entry.fault) }
 {
-    if !try_write(err, b"pdrecord: ") {
+    if !write_all_or_false(err, b"pdrecord: ") {
         return Exit {
             status: FAULT_STATUS,
             stderr_ok: false,
@@ -183,7 +183,7 @@ fn exit_with_outcome<W: Write, E: Write>(
         },
         Ok(Outcome::Refused(line)) => Exit {
             status: NOT_RECORDED,
-            stderr_ok: try_write(err, line.as_slice()),
+            stderr_ok: write_all_or_false(err, line.as_slice()),
         },
         Err(fault) => write_fault_and_return_fault_exit(PROGRAM, err, fault),
     }

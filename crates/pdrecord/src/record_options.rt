@@ -6,7 +6,9 @@ ghost use Rattle.pdrecord.specs.RecordArguments.{pdrecord, trace_rule, minimal_r
 
 use clap::error::ErrorKind;
 use clap::{Arg, ArgAction, ArgMatches, Command, Error};
-use pd_protocol::{clap_error_for_conflicting_arguments, is_word_true, toml_settings_text_option};
+use pd_protocol::{
+    clap_error_for_arguments_already_refused, is_word_true, toml_settings_text_option,
+};
 use std::alloc::{AllocError, Global};
 use std::convert::AsStr;
 
@@ -69,7 +71,7 @@ pub fn parse_record_options<'a, S: AsStr>(
     let matches = command.try_get_matches_from(arguments)?;
     if are_options_conflicting(&matches) {
         let with_conflicts = command_with_conflicts(alloc, is_trace_beside_minimal(&matches));
-        return Err(clap_error_for_conflicting_arguments(with_conflicts, arguments));
+        return Err(clap_error_for_arguments_already_refused(with_conflicts, arguments));
     }
     Ok(options_of_matches(alloc, &matches)?)
 }
@@ -186,7 +188,7 @@ fn push_options_with_conflicts<'a>(
     is_trace_apart: bool,
 ) -> Result<(), AllocError> {
     options.push(toml_settings_text_option(alloc))?;
-    options.push(trace_option_with_conflicts(alloc, is_trace_apart)?)?;
+    options.push(trace_option_refusing_minimal_if_set(alloc, is_trace_apart)?)?;
     options.push(minimal_option(alloc))?;
     options.push(drop_missing_option(alloc).requires_arg("minimal")?)?;
     options.push(file_option(alloc))?;
@@ -194,7 +196,7 @@ fn push_options_with_conflicts<'a>(
 }
 
 /// `--trace`, with the options that may be beside it.
-fn trace_option_with_conflicts<'a>(
+fn trace_option_refusing_minimal_if_set<'a>(
     alloc: Global,
     is_trace_apart: bool,
 ) -> Result<Arg<'a>, AllocError> {

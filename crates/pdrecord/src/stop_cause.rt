@@ -1,9 +1,8 @@
 //! Why recording a script stops, as the cause that a block reports.
-use pd_explain::{
-    Cause, Failed, cause_of_event_stop, explain_by_rerun_unless_pass, place_of_event_after_passed,
-};
+use pd_cause::{Cause, Failed, cause_of_event_stop, explain_by_rerun_unless_pass};
 use pd_host::Halt;
 use pd_record::{RecordingStop, find_recorder_state_stopped_on_line};
+use pd_refusal::place_of_event_after_passed;
 use pd_reparse::{ParsedEvent, Reading, read};
 use pd_run::{Precheck, StopPoint, StopReason, Verdict, run_all};
 use pd_script::parse;
@@ -22,7 +21,9 @@ pub fn cause_of_verdict(
     verdict: Verdict,
 ) -> Result<Option<Cause>, AllocError> {
     let (line, stop_reason) = match verdict {
-        Verdict::Pass(_) | Verdict::Syntax(_) => return cause_of_run(alloc, lines, settings),
+        Verdict::Pass(_) | Verdict::Syntax(_) => return cause_by_running_whole_text(
+            alloc, lines, settings,
+        ),
         Verdict::Unsupported(line) => (line, StopReason::Halted(Halt::Unsupported)),
         Verdict::Limit(line) => (line, StopReason::Halted(Halt::Limit)),
         Verdict::Fail(line, _) => (line, StopReason::FailedPrecheck(Precheck::Backwards)),
@@ -31,12 +32,12 @@ pub fn cause_of_verdict(
     let events = parsed.events.as_slice();
     match find_recorder_state_stopped_on_line(alloc, &parsed.header, events, settings, line)? {
         Some(stop) => cause_of_stop(alloc, lines, stop, stop_reason),
-        None => cause_of_run(alloc, lines, settings),
+        None => cause_by_running_whole_text(alloc, lines, settings),
     }
 }
 
 /// The cause where a text is no script, or its header isn't run: recording stops then as a run does.
-fn cause_of_run(
+fn cause_by_running_whole_text(
     alloc: Global,
     lines: &Lines,
     settings: &Settings,

@@ -6,7 +6,8 @@ ghost use Rattle.pdrecord.specs.Written.{IsWritten};
 ghost use Rattle.pdrecord.specs.Inner.{GoesOn};
 
 use crate::script_input::is_trace_line;
-use pd_explain::write_sender;
+use pd_cause::SenderSnapshot;
+use pd_explain::sender_state_text;
 use pd_print::render_seconds_with_six_decimals;
 use pd_protocol::ServeFault;
 use pd_record::{Recording, TraceEntry, TraceOrigin};
@@ -30,7 +31,13 @@ pub fn recording_octets(
     for done in 0..recording.lines.len() {
         put_recording_line_refusing_trace(&mut out, recording.lines.line(done + 1).unwrap_or(&[]))?;
         let trace_entry = recording.trace_entries.get(traced);
-        if put_trace_at_event_end(alloc, &mut out, trace_entry, done + 1, with_trace)? {
+        if put_trace_returning_whether_event_ends(
+            alloc,
+            &mut out,
+            trace_entry,
+            done + 1,
+            with_trace,
+        )? {
             traced = traced.saturating_add(1);
         }
     }
@@ -50,7 +57,7 @@ fn put_recording_line_refusing_trace(out: &mut Vec<u8>, line: &[u8]) -> Result<(
 }
 
 /// Adds the line of an event after its last line, if a trace is written; whether an event ends there.
-fn put_trace_at_event_end(
+fn put_trace_returning_whether_event_ends(
     alloc: Global,
     out: &mut Vec<u8>,
     trace_entry: Option<&TraceEntry>,
@@ -98,7 +105,7 @@ fn add_line_with_newline(out: &mut Vec<u8>, line: &[u8]) -> Result<(), AllocErro
 
 /// The line of an event in a trace.
 fn trace_line(alloc: Global, trace_entry: &TraceEntry) -> Result<Vec<u8>, AllocError> {
-    let sender = pd_explain::SenderSnapshot {
+    let sender = SenderSnapshot {
         state: trace_entry.sender.state,
         connection_snapshot: trace_entry.sender.connection_snapshot,
         expiry: trace_entry.sender.expiry,
@@ -106,7 +113,7 @@ fn trace_line(alloc: Global, trace_entry: &TraceEntry) -> Result<Vec<u8>, AllocE
     let mut line = Vec::from_slice(alloc, b"//= at ")?;
     line.extend_from_slice(render_seconds_with_six_decimals(alloc, trace_entry.at)?.as_slice())?;
     line.extend_from_slice(b" ")?;
-    line.extend_from_slice(write_sender(alloc, &sender)?.as_slice())?;
+    line.extend_from_slice(sender_state_text(alloc, &sender)?.as_slice())?;
     match trace_entry.origin {
         Some(TraceOrigin::Line(number)) => {
             line.extend_from_slice(b" sent_by:line")?;

@@ -13,7 +13,7 @@ pub struct Fixture {
 }
 
 /// Makes a call of a book, the last of these; whether there is such a call.
-pub fn answer(
+pub fn answer_if_lone_book_call(
     fixtures: &mut Vec<Fixture>,
     texts: &Texts,
     word: &str,
@@ -25,8 +25,8 @@ pub fn answer(
             fixtures.clear();
             output.push_str(add(fixtures, texts.alloc, arguments.number() as usize));
         }
-        "swap" => swap(fixtures, texts.alloc, output),
-        _ => return call_last(fixtures, texts, word, arguments, output),
+        "swap" => go_to_other_book(fixtures, texts.alloc, output),
+        _ => return call_last_or_new_book(fixtures, texts, word, arguments, output),
     }
     true
 }
@@ -44,7 +44,7 @@ fn add(fixtures: &mut Vec<Fixture>, alloc: Global, cache: usize) -> &'static str
 }
 
 /// Goes to the other book.
-fn swap(fixtures: &mut Vec<Fixture>, alloc: Global, output: &mut AnswerText) {
+fn go_to_other_book(fixtures: &mut Vec<Fixture>, alloc: Global, output: &mut AnswerText) {
     if fixtures.len() < 2 {
         return output.push_str(add(fixtures, alloc, CACHE));
     }
@@ -53,7 +53,7 @@ fn swap(fixtures: &mut Vec<Fixture>, alloc: Global, output: &mut AnswerText) {
 }
 
 /// Makes a call of the last book, a new one if there is none; whether there is such a call.
-fn call_last(
+fn call_last_or_new_book(
     fixtures: &mut Vec<Fixture>,
     texts: &Texts,
     word: &str,

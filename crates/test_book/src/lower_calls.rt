@@ -1,5 +1,7 @@
 //! The texts and the settings that a transcript has below any book, and their calls.
-use crate::scripts::{script, tokens, write_plain_verdict, write_verdict_and_steps};
+use crate::scripts::{
+    script, write_plain_verdict, write_token_kinds_from_place, write_verdict_and_steps,
+};
 use crate::settings;
 use pd_settings::Settings;
 use pd_text::{LineEdit, Lines, TextFault};
@@ -36,18 +38,27 @@ impl LowerCalls {
         output: &mut AnswerText,
     ) -> bool {
         match word {
-            "text" => keep(&mut self.written, texts.text(arguments.rest), output),
-            "become" => change(&mut self.written, texts, arguments, output),
+            "text" => keep_text_or_write_fault(
+                &mut self.written,
+                texts.text(arguments.rest),
+                output,
+            ),
+            "become" => keep_edited_last_text(&mut self.written, texts, arguments, output),
             _ => {
-                return settings::answer(&mut self.settings, texts, word, arguments, output)
-                    || self.look(texts, word, arguments, output);
+                return settings::answer_if_settings_or_name_call(
+                    &mut self.settings,
+                    texts,
+                    word,
+                    arguments,
+                    output,
+                ) || self.answer_if_call_on_last_text(texts, word, arguments, output);
             }
         }
         true
     }
 
     /// Looks at the last text, if there is one; whether there is such a call.
-    fn look(
+    fn answer_if_call_on_last_text(
         &self,
         texts: &Texts,
         word: &str,
@@ -55,21 +66,32 @@ impl LowerCalls {
         output: &mut AnswerText,
     ) -> bool {
         match self.written.last() {
-            Some(lines) => look(texts, lines, &self.settings, word, arguments, output),
+            Some(lines) => answer_if_call_on_text(
+                texts,
+                lines,
+                &self.settings,
+                word,
+                arguments,
+                output,
+            ),
             None => false,
         }
     }
 }
 
 /// Goes on with a text, and says how many lines it has.
-fn keep(written: &mut Vec<Lines>, made: Result<Lines, TextFault>, output: &mut AnswerText) {
+fn keep_text_or_write_fault(
+    written: &mut Vec<Lines>,
+    made: Result<Lines, TextFault>,
+    output: &mut AnswerText,
+) {
     match made {
-        Ok(lines) => push(written, lines, output),
+        Ok(lines) => push_text_and_write_line_count(written, lines, output),
         Err(fault) => output.push_str(fault.number_and_name()),
     }
 }
 
-fn push(written: &mut Vec<Lines>, lines: Lines, output: &mut AnswerText) {
+fn push_text_and_write_line_count(written: &mut Vec<Lines>, lines: Lines, output: &mut AnswerText) {
     let count = lines.len();
     match written.push(lines) {
         Ok(()) => output.number(count as u64),
@@ -78,7 +100,7 @@ fn push(written: &mut Vec<Lines>, lines: Lines, output: &mut AnswerText) {
 }
 
 /// Goes on with the last text after an edit.
-fn change(
+fn keep_edited_last_text(
     written: &mut Vec<Lines>,
     texts: &Texts,
     arguments: &mut CallArguments<'_>,
@@ -87,14 +109,14 @@ fn change(
     match written.last() {
         Some(lines) => {
             let made = edited(texts, lines, arguments);
-            keep(written, made, output);
+            keep_text_or_write_fault(written, made, output);
         }
         None => output.push_str(NO_SUCH_THING),
     }
 }
 
 /// Looks at a text, reads it or runs it; whether there is such a call.
-fn look(
+fn answer_if_call_on_text(
     texts: &Texts,
     lines: &Lines,
     settings: &Settings,
@@ -106,13 +128,15 @@ fn look(
         "edited" => write_made(output, edited(texts, lines, arguments)),
         "line" => write_line(output, lines, arguments.number()),
         "same" => output.push_str(compare(lines, texts.text(arguments.rest))),
-        _ => return run(texts, lines, settings, word, arguments, output),
+        _ => return answer_if_reading_or_running_call(
+            texts, lines, settings, word, arguments, output,
+        ),
     }
     true
 }
 
 /// Reads or runs a text; whether there is such a call.
-fn run(
+fn answer_if_reading_or_running_call(
     texts: &Texts,
     lines: &Lines,
     settings: &Settings,
@@ -121,7 +145,7 @@ fn run(
     output: &mut AnswerText,
 ) -> bool {
     match word {
-        "tokens" => tokens(lines, arguments, output),
+        "tokens" => write_token_kinds_from_place(lines, arguments, output),
         "script" => script(texts, lines, output),
         "verdict" => write_verdict_and_steps(texts, lines, settings, output),
         "plain-verdict" => write_plain_verdict(texts, lines, settings, output),

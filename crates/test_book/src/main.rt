@@ -52,7 +52,7 @@ fn main(rt: HostRuntime) -> ExitCode {
         Ok(selection) => selection,
         Err(_) => read_word(&rt).unwrap_or(RowSelection::All),
     };
-    match run_rows(&rt, selection) {
+    match run_selection_in_new_tables(&rt, selection) {
         Ok(true) => ExitCode::SUCCESS,
         Ok(false) => ExitCode::FAILURE,
         Err(_) => {
@@ -77,7 +77,7 @@ fn selection_of(word: Option<&String>) -> RowSelection {
 }
 
 /// Runs the rows, and returns whether all are answered as they are written.
-fn run_rows(
+fn run_selection_in_new_tables(
     rt: &(impl Input + Print + Files + AllocGlobal),
     selection: RowSelection,
 ) -> io::Result<bool> {
@@ -91,19 +91,19 @@ fn run_selection(
     tables: &mut TranscriptTables,
 ) -> io::Result<bool> {
     if !matches!(selection, RowSelection::Memory) {
-        tables.take_all(read_transcripts(rt)?.as_str());
+        tables.run_all_lines(read_whole_input(rt)?.as_str());
     }
     if matches!(selection, RowSelection::All) {
-        tables.take_all(fs::read_to_string(rt, LISTS)?.as_str());
+        tables.run_all_lines(fs::read_to_string(rt, LISTS)?.as_str());
     }
     if !matches!(selection, RowSelection::Transcripts) {
-        tables.take_all(ROWS);
+        tables.run_all_lines(ROWS);
     }
     tables.runner.print(rt)?;
     Ok(tables.runner.agrees)
 }
 
 /// The transcripts of the input.
-fn read_transcripts(rt: &(impl Input + AllocGlobal)) -> io::Result<String> {
+fn read_whole_input(rt: &(impl Input + AllocGlobal)) -> io::Result<String> {
     io::read_to_string(rt.alloc(), rt.reader())
 }

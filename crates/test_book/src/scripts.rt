@@ -7,7 +7,11 @@ use pd_text::Lines;
 use test_support::{AnswerText, CallArguments, OUT_OF_MEMORY, Texts, write_run, write_verdict};
 
 /// Says the kinds and lines of the tokens from a place on, at most 100, and what ends them.
-pub fn tokens(lines: &Lines, arguments: &mut CallArguments<'_>, output: &mut AnswerText) {
+pub fn write_token_kinds_from_place(
+    lines: &Lines,
+    arguments: &mut CallArguments<'_>,
+    output: &mut AnswerText,
+) {
     let mut place = Place {
         line: arguments.number() as usize,
         at: arguments.number() as usize,
@@ -42,12 +46,12 @@ fn kind_name(kind: TokenKind) -> &'static str {
 /// Says what a text is read as: the lines of its header's items and of its events, and the one at which no script goes on.
 pub fn script(texts: &Texts, lines: &Lines, output: &mut AnswerText) {
     match parse(texts.alloc, lines) {
-        Ok(parsed) => write_parsed(output, &parsed),
+        Ok(parsed) => write_parsed_line_numbers(output, &parsed),
         Err(_) => output.push_str(OUT_OF_MEMORY),
     }
 }
 
-fn write_parsed(output: &mut AnswerText, parsed: &Parsed) {
+fn write_parsed_line_numbers(output: &mut AnswerText, parsed: &Parsed) {
     for item in parsed.header.as_slice() {
         output.count("", item.line as u64, " item, ");
     }

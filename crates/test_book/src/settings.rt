@@ -3,12 +3,13 @@ use pd_settings::{Key, Settings};
 use pd_text::Name;
 use std::alloc::Global;
 use test_support::{
-    AnswerText, CallArguments, NO_SUCH_THING, OUT_OF_MEMORY, Texts, value_of, with, write_value,
+    AnswerText, CallArguments, NO_SUCH_THING, OUT_OF_MEMORY, Texts, value_of_setting, with,
+    write_value,
 };
 use toml::Table;
 
 /// Makes a call of settings, or of a name; whether there is such a call.
-pub fn answer(
+pub fn answer_if_settings_or_name_call(
     settings: &mut Settings,
     texts: &Texts,
     word: &str,
@@ -18,8 +19,12 @@ pub fn answer(
     match word {
         "get" => get(settings, arguments.rest, output),
         "with" => output.push_str(change(settings, arguments)),
-        "toml" => output.push_str(compare(texts.alloc, settings, arguments.rest)),
-        "name" => output.push_str(name_kind(texts, arguments.name())),
+        "toml" => output.push_str(compare_with_written_table(
+            texts.alloc,
+            settings,
+            arguments.rest,
+        )),
+        "name" => output.push_str(validity_of_script_name(texts, arguments.name())),
         _ => return false,
     }
     true
@@ -28,7 +33,7 @@ pub fn answer(
 /// Says what the setting of a name is set to.
 fn get(settings: &Settings, name: &str, output: &mut AnswerText) {
     match Key::from_name(name.as_bytes()) {
-        Some(key) => write_value(output, value_of(settings, key)),
+        Some(key) => write_value(output, value_of_setting(settings, key)),
         None => output.push_str(NO_SUCH_THING),
     }
 }
@@ -46,48 +51,48 @@ fn change(settings: &mut Settings, arguments: &mut CallArguments<'_>) -> &'stati
 }
 
 /// Whether a table, its lines parted by ` | `, gives these settings.
-fn compare(alloc: Global, settings: &Settings, written: &str) -> &'static str {
+fn compare_with_written_table(alloc: Global, settings: &Settings, written: &str) -> &'static str {
     match written.replace(alloc, " | ", "\n") {
-        Ok(text) => compare_text(alloc, settings, text.as_str()),
+        Ok(text) => compare_with_toml_text(alloc, settings, text.as_str()),
         Err(_) => OUT_OF_MEMORY,
     }
 }
 
-fn compare_text(alloc: Global, settings: &Settings, text: &str) -> &'static str {
+fn compare_with_toml_text(alloc: Global, settings: &Settings, text: &str) -> &'static str {
     match toml::table_from_str(alloc, text) {
-        Ok(table) => compare_table(settings, &table),
+        Ok(table) => compare_with_toml_table(settings, &table),
         Err(error) if error.is_memory() => OUT_OF_MEMORY,
         Err(_) => "(not a table)",
     }
 }
 
-fn compare_table(settings: &Settings, table: &Table) -> &'static str {
+fn compare_with_toml_table(settings: &Settings, table: &Table) -> &'static str {
     match Settings::from_table(table) {
-        Ok(read) => same_or_other(&read, settings),
+        Ok(read) => same_or_other_settings(&read, settings),
         Err(fault) => fault.number_and_name(),
     }
 }
 
-fn same_or_other(one: &Settings, other: &Settings) -> &'static str {
+fn same_or_other_settings(one: &Settings, other: &Settings) -> &'static str {
     if one.is_same(other) { "same" } else { "other" }
 }
 
 /// Whether a name is a script's, by a copy of it.
-fn name_kind(texts: &Texts, octets: &[u8]) -> &'static str {
+fn validity_of_script_name(texts: &Texts, octets: &[u8]) -> &'static str {
     match texts.name(octets) {
-        Ok(name) => shared_kind(&name),
+        Ok(name) => validity_of_shared_name(&name),
         Err(_) => OUT_OF_MEMORY,
     }
 }
 
-fn shared_kind(name: &Name) -> &'static str {
+fn validity_of_shared_name(name: &Name) -> &'static str {
     match name.share() {
-        Ok(copy) => kind_of(name, &copy),
+        Ok(copy) => validity_if_copy_is_same(name, &copy),
         Err(_) => OUT_OF_MEMORY,
     }
 }
 
-fn kind_of(name: &Name, copy: &Name) -> &'static str {
+fn validity_if_copy_is_same(name: &Name, copy: &Name) -> &'static str {
     if !copy.is_same(name) {
         "other"
     } else if copy.is_valid() {

@@ -1,9 +1,9 @@
-//! A book that seats share, by one of its seats, as rows call it. The promises of its calls stay in here.
+//! A book that seats share, as rows call it by one of its seats, whose acts it gives. The promises of calls stay in here.
 use pd_book::{Act, Done, Report};
 use pd_seat::{Held, Seat};
 use pd_settings::Value;
 use pd_text::{LineEdit, Lines, Name};
-use test_support::{Calls, StartedJob, abandoned, changed, finished, started};
+use test_support::{Calls, StartedJob, abandoned, changed, finished, started_job_or_reply};
 
 /// A book that seats share, and one of them.
 #[derive(Drop)]
@@ -31,7 +31,7 @@ impl<'a> Calls for SharedCalls<'a> {
 
     fn start(&mut self) -> Result<StartedJob, &'static str> {
         let number = self.seat.number();
-        started(self.held.start(self.seat), Some(number))
+        started_job_or_reply(self.held.start(self.seat), Some(number))
     }
 
     fn finish(&mut self, done: &Done, seat: Option<usize>) -> &'static str {

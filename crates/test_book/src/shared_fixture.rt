@@ -1,4 +1,4 @@
-//! Books that seats share, their seats, the seats that left, and the jobs that were handed out.
+//! Books that seats share, as rows open and close them: their seats, those that left, and the jobs that were handed out.
 ghost use Rattle.std.specs.Prelude.{◌<◌, vec_len, vec_capacity};
 
 use crate::shared_calls::SharedCalls;
@@ -8,8 +8,8 @@ use pd_settings::Settings;
 use std::alloc::Global;
 use std::mem;
 use test_support::{
-    AnswerText, CallArguments, NO_SUCH_THING, OUT_OF_MEMORY, StartedJob, Texts, call, move_last,
-    write_acts,
+    AnswerText, CallArguments, NO_SUCH_THING, OUT_OF_MEMORY, StartedJob, Texts, call,
+    move_last_items, write_acts,
 };
 
 /// A book, and what there is of it.
@@ -22,7 +22,7 @@ pub struct SharedFixture {
 }
 
 /// Makes a call of a book that seats share, the last of these; whether there is such a call.
-pub fn answer(
+pub fn answer_if_shared_book_call(
     shared_fixtures: &mut Vec<SharedFixture>,
     texts: &Texts,
     word: &str,
@@ -32,12 +32,12 @@ pub fn answer(
     match word {
         "seats" => open(shared_fixtures, texts.alloc, arguments, output),
         "close" => close(shared_fixtures, output),
-        "trade" => trade(shared_fixtures.as_mut_slice(), output),
+        "trade" => trade_seats_of_two_books(shared_fixtures.as_mut_slice(), output),
         "other-bench" => {
             shared_fixtures.reverse();
             output.push_str("ok");
         }
-        _ => return answer_there(shared_fixtures, texts, word, arguments, output),
+        _ => return answer_if_call_with_seats(shared_fixtures, texts, word, arguments, output),
     }
     true
 }
@@ -68,7 +68,7 @@ fn open(
 }
 
 /// Makes a call of a book with seats, if there is one; whether there is such a call.
-fn answer_there(
+fn answer_if_call_with_seats(
     shared_fixtures: &mut Vec<SharedFixture>,
     texts: &Texts,
     word: &str,
@@ -80,7 +80,9 @@ fn answer_there(
         _ => return false,
     }
     match shared_fixtures.last_mut() {
-        Some(shared_fixture) => shared_fixture.answer(texts, word, arguments, output),
+        Some(shared_fixture) => shared_fixture.move_seats_or_answer_at_seat(
+            texts, word, arguments, output,
+        ),
         None => {
             output.push_str(NO_SUCH_THING);
             true
@@ -89,7 +91,7 @@ fn answer_there(
 }
 
 /// Each of two books has the other's seats from now on.
-fn trade(shared_fixtures: &mut [SharedFixture], output: &mut AnswerText) {
+fn trade_seats_of_two_books(shared_fixtures: &mut [SharedFixture], output: &mut AnswerText) {
     match shared_fixtures {
         [one, other] => {
             mem::swap(&mut one.seats, &mut other.seats);
@@ -101,7 +103,7 @@ fn trade(shared_fixtures: &mut [SharedFixture], output: &mut AnswerText) {
 
 impl SharedFixture {
     /// Makes a call; whether there is such a call.
-    fn answer(
+    fn move_seats_or_answer_at_seat(
         &mut self,
         texts: &Texts,
         word: &str,
@@ -110,15 +112,15 @@ impl SharedFixture {
     ) -> bool {
         let number = arguments.number();
         match word {
-            "leave" => move_last(&mut self.seats, &mut self.away, number, output),
-            "call-back" => move_last(&mut self.away, &mut self.seats, number, output),
-            _ => return self.answer_of_seat(number as usize, texts, arguments, output),
+            "leave" => move_last_items(&mut self.seats, &mut self.away, number, output),
+            "call-back" => move_last_items(&mut self.away, &mut self.seats, number, output),
+            _ => return self.answer_if_call_of_seat(number as usize, texts, arguments, output),
         }
         true
     }
 
     /// Makes the call of a seat; whether there is such a call.
-    fn answer_of_seat(
+    fn answer_if_call_of_seat(
         &mut self,
         place: usize,
         texts: &Texts,
@@ -150,12 +152,12 @@ impl SharedFixture {
 /// Closes the book with the seats that are here, and says its acts, or why it isn't closed.
 fn close(shared_fixtures: &mut Vec<SharedFixture>, output: &mut AnswerText) {
     match shared_fixtures.pop() {
-        Some(shared_fixture) => close_fixture(shared_fixtures, shared_fixture, output),
+        Some(shared_fixture) => close_book_and_write_acts(shared_fixtures, shared_fixture, output),
         None => output.push_str(NO_SUCH_THING),
     }
 }
 
-fn close_fixture(
+fn close_book_and_write_acts(
     shared_fixtures: &mut Vec<SharedFixture>,
     shared_fixture: SharedFixture,
     output: &mut AnswerText,
@@ -169,11 +171,11 @@ fn close_fixture(
         started_jobs,
     } = shared_fixture;
     match held.close(seats) {
-        Ok(book) => write_book(output, "", book),
+        Ok(book) => write_acts_of_closed_book(output, "", book),
         Err(fault) => {
             output.push_str(fault.number_and_name());
             match fault {
-                CloseFault::Differs(book) => write_book(output, ", ", book),
+                CloseFault::Differs(book) => write_acts_of_closed_book(output, ", ", book),
                 CloseFault::MissingSeat(held, seats) => shared_fixtures.push_reserved(
                     SharedFixture {
                         held,
@@ -188,7 +190,7 @@ fn close_fixture(
 }
 
 /// Says the acts of a book that is closed.
-fn write_book(output: &mut AnswerText, before: &str, book: Book) {
+fn write_acts_of_closed_book(output: &mut AnswerText, before: &str, book: Book) {
     output.push_str(before);
     write_acts(output, book.history(), false);
 }

@@ -1,4 +1,4 @@
-//! Tables of rows as they are read. A transcript begins with its title, a line that begins `# `, and a table with a line that
+//! Runs rows line by line. A transcript begins with its title, a line that begins `# `, and a table with a line that
 //! begins `== `. Empty lines are passed over.
 use crate::transcript::BookTranscript;
 use std::alloc::{AllocError, Global};
@@ -24,7 +24,7 @@ impl TranscriptTables {
     }
 
     /// Takes each line of a text.
-    pub fn take_all(&mut self, text: &str) {
+    pub fn run_all_lines(&mut self, text: &str) {
         for line in text.split("\n") {
             self.take(line);
         }
@@ -37,11 +37,11 @@ impl TranscriptTables {
         if line.starts_with("== ") {
             runner.begin_table(line);
         } else if line.starts_with("# ") {
-            runner.begin_transcript();
+            runner.count_transcript();
             transcript.begin();
         } else if !line.is_empty() {
             transcript.answer(call_of(line), runner.begin_answer());
-            if runner.is_out_of_memory(line) {
+            if runner.must_repeat_for_memory(line) {
                 transcript.answer(call_of(line), runner.begin_answer());
             }
             runner.compare(line);

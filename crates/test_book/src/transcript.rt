@@ -40,15 +40,19 @@ impl BookTranscript {
             return output.replace_by_sum();
         }
         match call.split_once(" times ") {
-            Some((count, call)) => self.repeat(CallArguments::new(count).number(), call, output),
+            Some((count, call)) => self.repeat_while_ok(
+                CallArguments::new(count).number(),
+                call,
+                output,
+            ),
             None => self.once(call, output),
         }
     }
 
     /// Makes a call so often, or until the answer isn't `ok`.
-    fn repeat(&mut self, count: u64, call: &str, output: &mut AnswerText) {
+    fn repeat_while_ok(&mut self, count: u64, call: &str, output: &mut AnswerText) {
         for turn in 0..count {
-            match call_at(self.texts.alloc, call, turn, output) {
+            match call_with_turn_number(self.texts.alloc, call, turn, output) {
                 Ok(call) => self.once(call.as_str(), output),
                 Err(_) => output.is_whole = false,
             }
@@ -68,16 +72,22 @@ impl BookTranscript {
             fixtures,
             shared_fixtures,
         } = self;
-        let is_known = define(texts, word, &mut arguments, output)
+        let is_known = answer_if_definition(texts, word, &mut arguments, output)
             || lower_calls.answer(texts, word, &mut arguments, output)
-            || shared_fixture::answer(shared_fixtures, texts, word, &mut arguments, output)
-            || fixture::answer(fixtures, texts, word, &mut arguments, output);
-        write_faults(is_known, arguments.are_right, output);
+            || shared_fixture::answer_if_shared_book_call(
+                shared_fixtures,
+                texts,
+                word,
+                &mut arguments,
+                output,
+            )
+            || fixture::answer_if_lone_book_call(fixtures, texts, word, &mut arguments, output);
+        write_faults_of_written_call(is_known, arguments.are_right, output);
     }
 }
 
 /// A call as it is at a turn, of those from 0 on: with the turn's number for each `#`.
-fn call_at(
+fn call_with_turn_number(
     alloc: Global,
     call: &str,
     turn: u64,
@@ -91,7 +101,7 @@ fn call_at(
 }
 
 /// Has a word stand for lines from now on; returns whether that is the call.
-fn define(
+fn answer_if_definition(
     texts: &mut Texts,
     word: &str,
     arguments: &mut CallArguments<'_>,
@@ -109,7 +119,7 @@ fn define(
 }
 
 /// Says what is wrong with a call as it is written.
-fn write_faults(is_known: bool, are_right: bool, output: &mut AnswerText) {
+fn write_faults_of_written_call(is_known: bool, are_right: bool, output: &mut AnswerText) {
     if !is_known {
         output.push_str("(no such call)");
     }

@@ -1,4 +1,4 @@
-//! Seats at a desk, as rows call them, and the answers there.
+//! Opens and closes desks, runs pools there, and makes rows' calls at a seat; a settling waits, then gives the report.
 use crate::tracing_worker::{JobTrace, ShutsDesk, TracingStepper, WorkerMode};
 use pd_book::{Act, Book, Done, Report};
 use pd_desk::{Desk, Gate};
@@ -10,7 +10,7 @@ use std::sync::{Mutex, Wait};
 use std::thread::Threads;
 use test_support::{
     AnswerForm, AnswerText, CallArguments, Calls, StartedJob, Texts, abandoned, call, changed,
-    finished, started, write_report,
+    finished, started_job_or_reply, write_report,
 };
 
 /// The size of a book's cache.
@@ -43,7 +43,7 @@ impl<'a, 'b, R: Wait> Calls for DeskCaller<'a, 'b, R> {
 
     fn start(&mut self) -> Result<StartedJob, &'static str> {
         let number = self.seat.number();
-        started(self.desk.start(self.rt, self.seat), Some(number))
+        started_job_or_reply(self.desk.start(self.rt, self.seat), Some(number))
     }
 
     fn finish(&mut self, done: &Done, seat: Option<usize>) -> &'static str {
@@ -146,7 +146,7 @@ pub fn call_at(
 }
 
 /// Takes out the scripts a and b and makes an act, which wakes whoever waits for a verdict or for the desk to be shut.
-pub fn free(desk_caller: &mut impl Calls, alloc: Global) {
+pub fn remove_scripts_to_wake_waiters(desk_caller: &mut impl Calls, alloc: Global) {
     let texts = Texts::new(alloc);
     for letter in b"ab" {
         if let Ok(name) = texts.name(&[*letter]) {
@@ -192,7 +192,10 @@ pub fn pool<R: Threads + Wait + Sync>(
 }
 
 /// Where so many threads answer, each by itself.
-pub fn answers(alloc: Global, count: usize) -> Result<Vec<Mutex<AnswerText>>, AllocError> {
+pub fn new_answers_for_threads(
+    alloc: Global,
+    count: usize,
+) -> Result<Vec<Mutex<AnswerText>>, AllocError> {
     let mut answers = Vec::new(alloc);
     for _thread in 0..count {
         answers

@@ -1,6 +1,6 @@
-//! Calls at one seat of a desk while a pool of workers runs at the others.
+//! Settles or serves at one seat of a desk while a pool of workers runs at the others, and gives how the pool ended.
 use crate::callers::{DeskCaller, DeskCalls, pool, write_shown};
-use crate::progress::{SLEEP, await_count, give_way};
+use crate::progress::{SLEEP, await_count, yield_turns};
 use crate::schedules::SlowReader;
 use crate::serving::ServedOutput;
 use pd_desk::{Desk, Gate};
@@ -38,10 +38,10 @@ pub fn run_during_pool<R: Threads + Wait + Sync>(
         workers,
         &|first, seats| {
             if first == 0 {
-                during_pool.await_sleep(&begun);
+                during_pool.note_begun_and_let_settler_sleep(&begun);
                 *left.lock(rt) = pool(rt, alloc, desk, gate, seats);
             } else {
-                during_pool.carry_out(rt, alloc, desk, seats, &begun);
+                during_pool.carry_out_and_shut_desk(rt, alloc, desk, seats, &begun);
             }
         },
     );
@@ -50,16 +50,16 @@ pub fn run_during_pool<R: Threads + Wait + Sync>(
 
 impl<'a> DuringPool<'a> {
     /// Notes that there is a thread for the workers. Those beside whom it settles begin once it had turns to fall asleep.
-    fn await_sleep(self, begun: &AtomicU64) {
+    fn note_begun_and_let_settler_sleep(self, begun: &AtomicU64) {
         begun.store(1, Ordering::SeqCst);
         if let DuringPool::Settle(_) = self {
             let _ = await_count(begun, 2);
-            give_way(SLEEP);
+            yield_turns(SLEEP);
         }
     }
 
     /// Does it once there is a thread for the workers, which there isn't where none can be made, and shuts the desk.
-    fn carry_out<R: Wait>(
+    fn carry_out_and_shut_desk<R: Wait>(
         self,
         rt: &R,
         alloc: Global,

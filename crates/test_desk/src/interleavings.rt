@@ -54,11 +54,11 @@ fn run_lists<R: Threads + Wait + Sync>(
 ) -> Result<(), AllocError> {
     let turnstile = Turnstile::new(alloc)?;
     let director = Mutex::new(Director::new(alloc)?);
-    run_all_lists(rt, alloc, &turnstile, &director, summary);
+    run_each_stored_list(rt, alloc, &turnstile, &director, summary);
     Ok(())
 }
 
-fn run_all_lists<R: Threads + Wait + Sync>(
+fn run_each_stored_list<R: Threads + Wait + Sync>(
     rt: &R,
     alloc: Global,
     turnstile: &Turnstile,
@@ -82,13 +82,13 @@ impl<'a, 'b, R: Threads + Wait + Sync> Players<'a, 'b, R> {
     fn run_list(&self, list: &str, summary: &mut Summary) {
         self.director.lock(self.rt).choices.clear();
         for _order in 0..MOST {
-            summary.begin();
+            summary.count_tried();
             let is_right = self.run_interleaving();
             if !is_right || !self.director.lock(self.rt).choices.advance() {
-                return summary.must(is_right, list);
+                return summary.report_unless(is_right, list);
             }
         }
-        summary.must(false, list);
+        summary.report_unless(false, list);
     }
 
     /// Makes calls in the order of the director's choices, or of the first that go on from them; whether all answers are

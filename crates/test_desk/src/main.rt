@@ -71,15 +71,15 @@ impl TestSelection {
     /// Those of a name, or all where it is empty.
     fn named(name: &str) -> TestSelection {
         TestSelection {
-            transcripts: is_named(name, "stories"),
-            two_workers: is_named(name, "overlap"),
-            schedules: is_named(name, "schedules"),
-            interleavings: is_named(name, "orders"),
+            transcripts: is_named_or_all(name, "stories"),
+            two_workers: is_named_or_all(name, "overlap"),
+            schedules: is_named_or_all(name, "schedules"),
+            interleavings: is_named_or_all(name, "orders"),
         }
     }
 }
 
-fn is_named(name: &str, part: &str) -> bool {
+fn is_named_or_all(name: &str, part: &str) -> bool {
     name.is_empty() || name == part
 }
 

@@ -20,7 +20,7 @@ pub fn await_count(counted: &AtomicU64, count: u64) -> bool {
 }
 
 /// Gives so many turns to others.
-pub fn give_way(turns: u64) {
+pub fn yield_turns(turns: u64) {
     for _turn in 0..turns {
         thread::yield_now();
     }
@@ -44,7 +44,7 @@ pub struct ThreadProgress {
 
 impl ThreadProgress {
     /// That of threads of these letters, none of which has begun.
-    pub fn of(letters: &str) -> ThreadProgress {
+    pub fn of_thread_letters(letters: &str) -> ThreadProgress {
         let mut workers = 0u64;
         let mut changing = 0u64;
         for letter in letters.as_bytes() {
@@ -68,14 +68,14 @@ impl ThreadProgress {
     }
 
     /// Waits until so many have begun, gives them turns to fall asleep, and begins.
-    pub fn begin_after(&self, before: u64) {
+    pub fn await_begun_then_begin(&self, before: u64) {
         let _ = await_count(&self.begun, before);
-        give_way(SLEEP);
+        yield_turns(SLEEP);
         self.begun.fetch_add(1, Ordering::SeqCst);
     }
 
     /// Waits until so many are counted; whether they are within the turns since the last change.
-    pub fn is_reached(&self, counted: &AtomicU64, count: u64) -> bool {
+    pub fn await_count_or_note_late(&self, counted: &AtomicU64, count: u64) -> bool {
         for _wait in 0..TURNS {
             let changes = self.changes.load(Ordering::SeqCst);
             if await_count(counted, count) {
@@ -90,14 +90,14 @@ impl ThreadProgress {
     }
 
     /// Waits until a worker has taken its first step.
-    pub fn await_worker(&self) {
-        self.is_reached(&self.met, 1);
+    pub fn await_first_step(&self) {
+        self.await_count_or_note_late(&self.met, 1);
     }
 
     /// Waits after a first step until another worker took its own.
     pub fn meet(&self) {
         self.met.fetch_add(1, Ordering::SeqCst);
-        self.is_reached(&self.met, 2);
+        self.await_count_or_note_late(&self.met, 2);
     }
 
     /// Notes that the thread of a letter has ended.

@@ -1,4 +1,4 @@
-//! A book alone, at which one thread makes all calls and runs all jobs.
+//! A book alone, at which one thread makes calls or the acts of a history, runs all jobs, and then says the report.
 use crate::callers::{CACHE, write_shown};
 use pd_book::{Act, Report, Ruling};
 use pd_text::{LineEdit, LineList, Name, Text};
@@ -41,7 +41,7 @@ impl ReferenceBook {
         call(book, started_jobs, texts, word, &mut arguments, out);
     }
 
-    pub fn report(&mut self) -> Result<Report, &'static str> {
+    pub fn shown_report(&mut self) -> Result<Report, &'static str> {
         self.book.show()
     }
 
@@ -123,7 +123,7 @@ impl ReferenceBook {
 }
 
 /// Makes the acts of a history in a book alone, and says its report; whether each is accepted, with the same reply.
-pub fn make_again(alloc: Global, acts: &[Act], out: &mut AnswerText) -> bool {
+pub fn replay_acts_and_write_report(alloc: Global, acts: &[Act], out: &mut AnswerText) -> bool {
     let mut again = ReferenceBook::new(alloc);
     let are_made = again.are_made(acts, out);
     again.call("show", out);
@@ -131,6 +131,6 @@ pub fn make_again(alloc: Global, acts: &[Act], out: &mut AnswerText) -> bool {
 }
 
 /// Says the report from scratch of these calls.
-pub fn write_scratch(alloc: Global, calls: &[&str], out: &mut AnswerText) {
+pub fn write_report_from_scratch(alloc: Global, calls: &[&str], out: &mut AnswerText) {
     ReferenceBook::new(alloc).settle(calls, out);
 }

@@ -37,7 +37,7 @@ pub fn run_schedules(rt: &(impl Print + AllocGlobal + Threads + Wait + Sync)) ->
     let mut schedule_run = ScheduleRun::new(rt.alloc())?;
     for _round in 0..ROUNDS {
         for workers in 1..=WORKERS {
-            schedule_run.summary.begin();
+            schedule_run.summary.count_tried();
             schedule_run.run_input(rt, &mut random, workers);
         }
     }
@@ -84,7 +84,7 @@ impl ScheduleRun {
     fn compare<R: Wait>(&mut self, rt: &R, what: &str) {
         let are_settled = self.input.are_settled.as_slice();
         let is_same = is_served(&self.served.lock(rt), &self.alone, are_settled);
-        self.summary.must(is_same, what);
+        self.summary.report_unless(is_same, what);
     }
 
     /// Opens a desk for so many workers, serves the commands while they run, and closes it.
@@ -95,7 +95,7 @@ impl ScheduleRun {
                 self.serve_seated(rt, &desk, gate, seats.as_mut_slice());
                 self.close(rt, desk, seats);
             }
-            None => self.summary.must(false, "the opening"),
+            None => self.summary.report_unless(false, "the opening"),
         }
     }
 
@@ -111,41 +111,42 @@ impl ScheduleRun {
         let during_pool = DuringPool::Serve(&self.served, written, gate.seed);
         let left = run_during_pool(rt, self.alloc, desk, gate, seats, during_pool);
         self.compare(rt, "what a seat is served");
-        self.summary.must(left == "ok", "how a worker left");
+        self.summary
+            .report_unless(left == "ok", "how a worker left");
     }
 
     /// Closes a desk, and compares its book.
     fn close<R: Wait>(&mut self, rt: &R, desk: Desk, seats: Vec<Seat>) {
         match close(desk, seats) {
             Some(book) => self.compare_book(rt, &book),
-            None => self.summary.must(false, "the closing"),
+            None => self.summary.report_unless(false, "the closing"),
         }
     }
 
     /// Compares a book's report and that of its history, made again, with the last that was written without threads.
     fn compare_book<R: Wait>(&mut self, rt: &R, book: &Book) {
-        self.compare_last(shown(book), "the closed book");
+        self.compare_last(report_of_book(book), "the closed book");
         let mut again = ReferenceBook::new(self.alloc);
         let are_made = again.are_made(book.history(), &mut self.served.lock(rt).out);
-        self.summary.must(are_made, "an act");
-        self.compare_last(again.report(), "the report of the history");
+        self.summary.report_unless(are_made, "an act");
+        self.compare_last(again.shown_report(), "the report of the history");
     }
 
     fn compare_last(&mut self, shown: Result<Report, &'static str>, what: &str) {
         let is_same = match shown {
-            Ok(report) => is_last(self.alloc, &report, &self.alone),
+            Ok(report) => is_last_written_report(self.alloc, &report, &self.alone),
             Err(_) => false,
         };
-        self.summary.must(is_same, what);
+        self.summary.report_unless(is_same, what);
     }
 }
 
-fn shown(book: &Book) -> Result<Report, &'static str> {
+fn report_of_book(book: &Book) -> Result<Report, &'static str> {
     book.show().or(Err("no memory"))
 }
 
 /// Whether a report is the last that was written.
-fn is_last(alloc: Global, report: &Report, alone: &ServedOutput) -> bool {
+fn is_last_written_report(alloc: Global, report: &Report, alone: &ServedOutput) -> bool {
     match render(alloc, report) {
         Ok(octets) => alone.out.as_str().as_bytes().ends_with(octets.as_slice()),
         Err(_) => false,

@@ -50,7 +50,7 @@ impl ServedOutput {
     }
 
     /// Begins anew, with so many octets a call and this call that fails.
-    pub fn begin(&mut self, most: usize, fails_at: u64) {
+    pub fn begin_with_write_limits(&mut self, most: usize, fails_at: u64) {
         self.out.clear();
         self.most = most;
         self.fails_at = fails_at;

@@ -13,10 +13,14 @@ use std::alloc::{AllocError, Global};
 use test_support::{AnswerText, CallArguments, OUT_OF_MEMORY};
 
 /// Makes the check of a row, and says how many runs it has made and how many were wrong.
-pub fn check_streams(alloc: Global, arguments: &mut CallArguments<'_>, out: &mut AnswerText) {
+pub fn answer_streams_check(
+    alloc: Global,
+    arguments: &mut CallArguments<'_>,
+    out: &mut AnswerText,
+) {
     match StreamRuns::new(alloc) {
         Ok(mut runs) => {
-            runs.check(arguments);
+            runs.make_named_check(arguments);
             runs.write_counts(out);
         }
         Err(_) => out.push_str(OUT_OF_MEMORY),
@@ -58,13 +62,13 @@ impl StreamRuns {
     }
 
     /// Makes a check, of streams that give or take at most so many octets a call.
-    fn check(&mut self, arguments: &mut CallArguments<'_>) {
+    fn make_named_check(&mut self, arguments: &mut CallArguments<'_>) {
         match arguments.word() {
             "reads" => self.check_reads(arguments.number() as usize),
             "writes" => self.check_writes(arguments.number() as usize),
             "errors" => self.check_unwritten_errors(),
-            "newlines" => self.check_newlines(),
-            "memory" => self.check_memory(),
+            "newlines" => self.check_endless_newlines(),
+            "memory" => self.check_run_that_may_lack_memory(),
             _ => self.note(false, 0),
         }
     }
@@ -98,10 +102,11 @@ impl StreamRuns {
 
     /// Runs the program with the settings of a text on this input, by streams of this pace.
     fn run(&mut self, settings: &str, input: &str, pace: Pace) {
-        self.output.begin(pace.taken, pace.write_fails);
-        self.errors.begin(pace.error_limit, 0);
+        self.output
+            .begin_with_write_limits(pace.taken, pace.write_fails);
+        self.errors.begin_with_write_limits(pace.error_limit, 0);
         let mut source = Source::new(input, pace);
-        self.status = run_on(
+        self.status = run_alone_for_status(
             self.alloc,
             settings,
             &mut source,
@@ -114,7 +119,7 @@ impl StreamRuns {
 
     /// Runs the program. In the gate there is memory; outside it each allocation is refused in turn, and then what was written
     /// is a prefix, and the next run says all.
-    fn check_memory(&mut self) {
+    fn check_run_that_may_lack_memory(&mut self) {
         self.run("tolerance_us = 5000", MEMORY_INPUT, STEADY);
         let is_right = self.says(MEMORY_OUTPUT, "", 0);
         let is_prefix = MEMORY_OUTPUT.starts_with(self.output.out.as_str());
@@ -124,7 +129,7 @@ impl StreamRuns {
 }
 
 /// Runs the program without workers, and gives its status. Its promises stay in here: callers compare what was written.
-fn run_on(
+fn run_alone_for_status(
     alloc: Global,
     settings: &str,
     source: &mut Source<'_>,
@@ -136,6 +141,7 @@ fn run_on(
         workers: 0,
         cache: CACHE,
         steps: false,
+        rules: false,
         explain: None,
     };
     run_alone(alloc, &options, source, output, errors).status

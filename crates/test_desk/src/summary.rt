@@ -20,12 +20,12 @@ impl Summary {
     }
 
     /// Counts one more that is tried.
-    pub fn begin(&mut self) {
+    pub fn count_tried(&mut self) {
         self.run = self.run.wrapping_add(1);
     }
 
     /// Counts and reports a condition that doesn't hold.
-    pub fn must(&mut self, holds: bool, what: &str) {
+    pub fn report_unless(&mut self, holds: bool, what: &str) {
         if !holds {
             self.differing = self.differing.wrapping_add(1);
             self.out.push_str("number ");

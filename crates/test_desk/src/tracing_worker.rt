@@ -1,4 +1,4 @@
-//! Workers that are watched: round each of their jobs, and after each of its steps.
+//! A worker's gate and stepper, which by its mode shut the desk, wait, note steps, hand the turn on or feign no memory.
 ghost use Rattle.std.specs.Prelude.{◌≡◌};
 
 use crate::interleavings::turnstile::{PlayerPosition, Turnstile};
@@ -61,7 +61,7 @@ impl<'a, R: Wait, D: ShutsDesk> JobTrace<'a, R, D> {
     }
 
     /// After a step; whether that is to find no memory.
-    fn is_short(&self, count: u64) -> bool {
+    fn trace_step_and_must_feign_no_memory(&self, count: u64) -> bool {
         self.steps.store(count, Ordering::SeqCst);
         match self.mode {
             WorkerMode::Meet(progress) if count == 1 => progress.meet(),
@@ -144,7 +144,10 @@ impl<'a, R: Wait, D: ShutsDesk> Stepper for TracingStepper<'a, R, D> {
         settings: &Settings,
     ) -> Result<StepEnd, AllocError> {
         let end = self.plain.step(state, event, settings);
-        if self.job_trace.is_short(self.plain.count()) {
+        if self
+            .job_trace
+            .trace_step_and_must_feign_no_memory(self.plain.count())
+        {
             return Err(AllocError);
         }
         end

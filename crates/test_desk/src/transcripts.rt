@@ -33,7 +33,7 @@ fn run_rows<R: Input + Print + AllocGlobal + Threads + Wait + Sync>(
     let mut transcript = DeskTranscript::new(rt.alloc());
     for line in rt.lines(rt.alloc()) {
         let line = line?;
-        if !is_title(line.as_str()) {
+        if !is_title_or_empty(line.as_str()) {
             run_row(rt, runner, &mut transcript, line.as_str());
             runner.print(rt)?;
         }
@@ -50,12 +50,12 @@ fn run_row<R: Threads + Wait + Sync>(
 ) {
     let call = call_of(row);
     transcript.answer(rt, call, runner.begin_answer());
-    if runner.is_out_of_memory(row) {
+    if runner.must_repeat_for_memory(row) {
         transcript.answer(rt, call, runner.begin_answer());
     }
     runner.compare(row);
 }
 
-fn is_title(line: &str) -> bool {
+fn is_title_or_empty(line: &str) -> bool {
     line.is_empty() || line.starts_with("# ") || line.starts_with("== ")
 }

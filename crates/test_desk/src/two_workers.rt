@@ -45,13 +45,13 @@ pub fn run_two_workers(
     let gate = HeldGate::new();
     let mut served = ServedOutput::new(rt.alloc())?;
     serve_held(rt, &gate, &mut served);
-    let found = found(&gate, &served);
+    let found = text_of_outcome(&gate, &served);
     rt.print(found)?;
     Ok(found == OVERLAP)
 }
 
 /// The text that is printed of it.
-fn found(gate: &HeldGate, served: &ServedOutput) -> &'static str {
+fn text_of_outcome(gate: &HeldGate, served: &ServedOutput) -> &'static str {
     if gate.late.load(Ordering::SeqCst) != 0 {
         "job 2 didn't begin while job 1 was held\n"
     } else if served.out.as_str() == WANTED && served.passes.is_some() {

@@ -4,7 +4,7 @@ use crate::damage::change_everywhere;
 use crate::make_text::{line_list, text};
 use crate::octet_buffer::{OctetBuffer, split_at_mark};
 use crate::reparse_check::{compare_edited, edit_often};
-use crate::token_reader::{TokenReader, value_of};
+use crate::token_reader::{TokenReader, saturating_value_of_digits};
 use pd_text::LineEdit;
 use std::rt::Files;
 use std::{fs, str};
@@ -20,15 +20,15 @@ pub fn run_case(rt: &(impl Files + AllocGlobal), comparison: &mut Comparison, li
     comparison.output.add(line);
     comparison.output.add(b" ->");
     if kind.starts_with(b"edit") || kind.starts_with(b"script") {
-        check_file(rt, comparison, kind, numbers, rest);
+        check_script_of_file(rt, comparison, kind, numbers, rest);
     } else {
-        check_row(comparison, kind, rest);
+        check_text_of_row(comparison, kind, rest);
     }
     comparison.output.add(b"\n");
 }
 
 /// Checks the script of a file.
-fn check_file(
+fn check_script_of_file(
     rt: &(impl Files + AllocGlobal),
     comparison: &mut Comparison,
     kind: &[u8],
@@ -37,13 +37,19 @@ fn check_file(
 ) {
     let (name, insert) = split_at_mark(rest, b' ');
     match fs::read(rt, str::from_utf8(name).unwrap_or("")) {
-        Ok(script) => check_script(comparison, kind, numbers, script.as_slice(), insert),
+        Ok(script) => check_script_damaged_or_edited(
+            comparison,
+            kind,
+            numbers,
+            script.as_slice(),
+            insert,
+        ),
         Err(_) => comparison.stop(),
     }
 }
 
 /// Checks a script and each way to cut or change it, or edits it as these numbers say.
-fn check_script(
+fn check_script_damaged_or_edited(
     comparison: &mut Comparison,
     kind: &[u8],
     numbers: &[u8],
@@ -51,7 +57,10 @@ fn check_script(
     insert: &[u8],
 ) {
     let (first, second) = split_at_mark(numbers, b' ');
-    let (first, second) = (value_of(first, 10) as usize, value_of(second, 10) as usize);
+    let (first, second) = (
+        saturating_value_of_digits(first, 10) as usize,
+        saturating_value_of_digits(second, 10) as usize,
+    );
     if kind.starts_with(b"script") {
         comparison.compare(script);
         comparison.put_reading();
@@ -100,20 +109,20 @@ fn check_edited(comparison: &mut Comparison, script: &[u8], edit: &LineEdit) {
 }
 
 /// Reads a text both ways, and says of it what is asked.
-fn check_row(comparison: &mut Comparison, kind: &[u8], row: &[u8]) {
+fn check_text_of_row(comparison: &mut Comparison, kind: &[u8], row: &[u8]) {
     let mut octets = OctetBuffer::new(comparison.alloc);
     if kind.starts_with(b"many") {
         let (event, rest) = split_at_mark(row, b' ');
-        octets.add_rows(4_096, event);
-        octets.add_rows(1, rest);
+        octets.add_row_times(4_096, event);
+        octets.add_row_times(1, rest);
     } else {
-        octets.add_rows(1, row);
+        octets.add_row_times(1, row);
     }
-    check_text(comparison, kind, octets.octets.as_slice());
+    compare_and_put_as_asked(comparison, kind, octets.octets.as_slice());
     comparison.output.is_short |= octets.is_short;
 }
 
-fn check_text(comparison: &mut Comparison, kind: &[u8], text: &[u8]) {
+fn compare_and_put_as_asked(comparison: &mut Comparison, kind: &[u8], text: &[u8]) {
     comparison.compare(text);
     if kind.starts_with(b"tokens") {
         put_kinds(&mut comparison.output, text);

@@ -1,4 +1,4 @@
-//! Reads texts both ways and keeps what differs.
+//! Reads texts both ways, counts and prints what differs, and remembers if a line of the input couldn't be carried out.
 use crate::make_text::text;
 use crate::octet_buffer::OctetBuffer;
 use crate::parsed_lines::ParsedLines;
@@ -130,14 +130,14 @@ impl Comparison {
     }
 
     /// Notes an edited script that was read again, so many events kept.
-    pub fn note_edit(&mut self, kept: usize) {
+    pub fn count_edit_and_kept_events(&mut self, kept: usize) {
         self.edits = self.edits.saturating_add(1);
         self.kept = self.kept.saturating_add(kept);
         self.last_kept = kept;
     }
 
     /// Notes whether something of an edited script is right.
-    pub fn note(&mut self, is_right: bool) {
+    pub fn count_wrong_unless(&mut self, is_right: bool) {
         if !is_right {
             self.wrong = self.wrong.saturating_add(1);
             self.output.add(b" DIFFERS");

@@ -38,7 +38,7 @@ impl Editor {
         let after = match self.index(6) {
             0 => text.len(),
             1 => {
-                let (front, back) = self.parted(line(text, before.saturating_add(1)));
+                let (front, back) = self.parted_at_random(line(text, before.saturating_add(1)));
                 self.add_line(front);
                 self.add_line(back);
                 before.saturating_add(1)
@@ -64,7 +64,7 @@ impl Editor {
                 self.add_line(piece);
             }
             _ => {
-                let (front, back) = self.parted(line);
+                let (front, back) = self.parted_at_random(line);
                 self.add_line(front);
                 let piece = self.piece();
                 self.text.add(piece);
@@ -86,7 +86,7 @@ impl Editor {
         self.text.add(line);
     }
 
-    fn parted<'a>(&mut self, line: &'a [u8]) -> (&'a [u8], &'a [u8]) {
+    fn parted_at_random<'a>(&mut self, line: &'a [u8]) -> (&'a [u8], &'a [u8]) {
         let at = self.index(line.len()).min(line.len());
         line.split_at(at)
     }

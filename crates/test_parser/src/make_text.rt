@@ -25,7 +25,7 @@ fn add_lines(list: &mut LineList, octets: &[u8]) -> Result<(), AllocError> {
     let mut left = octets;
     for _line in 0..=octets.len() {
         let (line, rest) = split_at_mark(left, b'\n');
-        list.push_unless_newline_inside(line)?;
+        list.push_or_ignore_if_newline_inside(line)?;
         if line.len() == left.len() {
             return Ok(());
         }

@@ -23,7 +23,7 @@ impl OctetBuffer {
     }
 
     /// Adds so many times the octets of a row, in which `|` stands for a newline.
-    pub fn add_rows(&mut self, times: usize, row: &[u8]) {
+    pub fn add_row_times(&mut self, times: usize, row: &[u8]) {
         for _time in 0..times {
             for octet in row {
                 let octet = if *octet == b'|' { b'\n' } else { *octet };

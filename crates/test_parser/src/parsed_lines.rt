@@ -1,4 +1,4 @@
-//! The reading of a text, by the lines in which its parts begin.
+//! The reading of a text as line numbers: where header items and events begin, how many these are, and the fault's.
 use pd_script::{Header, Parsed, parse};
 use pd_text::Lines;
 use std::alloc::Global;

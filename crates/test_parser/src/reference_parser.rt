@@ -69,11 +69,11 @@ impl ReferenceParser {
             reading: ParsedLines::new(alloc),
             is_short: false,
         };
-        reference_parser.find_productions();
+        reference_parser.find_all_productions();
         reference_parser
     }
 
-    fn find_productions(&mut self) {
+    fn find_all_productions(&mut self) {
         for at in 0..GRAMMAR.len() {
             if let GrammarPart::Alternative(name) = part_at(at) {
                 self.is_short |= self
@@ -101,7 +101,7 @@ impl ReferenceParser {
                 self.refuse(token.line);
                 return;
             }
-            self.note(token.line);
+            self.note_line_of_item_or_event(token.line);
             swap(&mut self.open, &mut self.left);
         }
     }
@@ -118,11 +118,11 @@ impl ReferenceParser {
             length: 0,
             pairs: 0,
         };
-        self.push(Continuation { at: 1, after: NONE }, token_checks);
+        self.push_open_way(Continuation { at: 1, after: NONE }, token_checks);
     }
 
     /// Adds a way that has to be written out.
-    fn push(&mut self, rest: Continuation, token_checks: TokenChecks) {
+    fn push_open_way(&mut self, rest: Continuation, token_checks: TokenChecks) {
         self.is_short |= self.open.push(Alternative { rest, token_checks }).is_err();
     }
 
@@ -149,8 +149,12 @@ impl ReferenceParser {
         };
         let around = self.continuations.get(rest.after).copied();
         match (part_at(rest.at), around) {
-            (GrammarPart::Of(name), _) => self.write_out(name, following, token_checks),
-            (GrammarPart::Alternative(_), Some(rest)) => self.push(rest, token_checks),
+            (GrammarPart::Of(name), _) => self.push_ways_to_write_name(
+                name,
+                following,
+                token_checks,
+            ),
+            (GrammarPart::Alternative(_), Some(rest)) => self.push_open_way(rest, token_checks),
             (GrammarPart::Alternative(_), None) => self.is_whole = true,
             (part, _) => self.take(part, token, following, token_checks),
         }
@@ -172,7 +176,12 @@ impl ReferenceParser {
     }
 
     /// Adds each way to write what has this name, with this rest to come after it.
-    fn write_out(&mut self, name: Nonterminal, rest: Continuation, token_checks: TokenChecks) {
+    fn push_ways_to_write_name(
+        &mut self,
+        name: Nonterminal,
+        rest: Continuation,
+        token_checks: TokenChecks,
+    ) {
         let mut token_checks = token_checks;
         if name.is(Nonterminal::Event) {
             token_checks.events = token_checks.events.saturating_add(1);
@@ -180,7 +189,7 @@ impl ReferenceParser {
         if token_checks.events > MAX_EVENTS {
             return;
         }
-        let after = self.number(rest);
+        let after = self.number_of_stored_continuation(rest);
         for rule in self.productions.as_slice() {
             if rule.name.is(name) {
                 let rest = Continuation { at: rule.at, after };
@@ -190,7 +199,7 @@ impl ReferenceParser {
     }
 
     /// The number of a rest; where it has no parts, of what has to come after it.
-    fn number(&mut self, rest: Continuation) -> usize {
+    fn number_of_stored_continuation(&mut self, rest: Continuation) -> usize {
         if let GrammarPart::Alternative(_) = part_at(rest.at) {
             return rest.after;
         }
@@ -199,7 +208,7 @@ impl ReferenceParser {
     }
 
     /// Notes the line of a token, if it is of the header or the first of an event.
-    fn note(&mut self, line: usize) {
+    fn note_line_of_item_or_event(&mut self, line: usize) {
         if self.events_begun == 0 {
             self.reading.header = self.reading.header.saturating_add(1);
         }

@@ -53,19 +53,19 @@ fn compare_text(comparison: &mut Comparison, old: &Lines, octets: &[u8]) {
 /// Reads a text, and an edited one again and whole; and after that the first text once more.
 pub fn compare_edited(comparison: &mut Comparison, old: &Lines, new: &Lines) {
     match read(comparison.alloc, old) {
-        Ok(before) => compare_again(comparison, old, new, &before),
+        Ok(before) => reread_and_compare(comparison, old, new, &before),
         Err(_) => comparison.stop(),
     }
 }
 
-fn compare_again(comparison: &mut Comparison, old: &Lines, new: &Lines, before: &Reading)
+fn reread_and_compare(comparison: &mut Comparison, old: &Lines, new: &Lines, before: &Reading)
     requires { before.now ≡ reading_of old.now }
 {
     match read_again(comparison.alloc, old, new, before) {
         Ok(again) => {
             let same = old.same_front(new);
-            comparison.note_edit(again.kept);
-            comparison.note(again.kept == counted(before, same));
+            comparison.count_edit_and_kept_events(again.kept);
+            comparison.count_wrong_unless(again.kept == event_count_decided_by_front(before, same));
             compare_whole(comparison, new, &again.reading);
             compare_back(comparison, new, old, &again.reading, before);
         }
@@ -76,7 +76,7 @@ fn compare_again(comparison: &mut Comparison, old: &Lines, new: &Lines, before: 
 /// Compares what was read again with what is read of the whole text.
 fn compare_whole(comparison: &mut Comparison, new: &Lines, again: &Reading) {
     match read(comparison.alloc, new) {
-        Ok(whole) => comparison.note(is_same(&whole, again)),
+        Ok(whole) => comparison.count_wrong_unless(is_same(&whole, again)),
         Err(_) => comparison.stop(),
     }
 }
@@ -93,8 +93,10 @@ fn compare_back(
 {
     match read_again(comparison.alloc, new, old, again) {
         Ok(back) => {
-            comparison.note(back.kept == counted(again, new.same_front(old)));
-            comparison.note(is_same(&back.reading, before));
+            comparison.count_wrong_unless(
+                back.kept == event_count_decided_by_front(again, new.same_front(old)),
+            );
+            comparison.count_wrong_unless(is_same(&back.reading, before));
         }
         Err(_) => comparison.stop(),
     }
@@ -116,7 +118,7 @@ fn read_again(
 }
 
 /// The number of events that the first lines decide.
-fn counted(reading: &Reading, same: usize) -> usize {
+fn event_count_decided_by_front(reading: &Reading, same: usize) -> usize {
     let mut count = 0usize;
     let events = reading.events();
     for i in 0..events.len() {

@@ -141,10 +141,10 @@ impl SpellingPart {
         let (octets, is_spelled) = match self {
             Text(octets) => (octets.len(), rest.starts_with(octets)),
             One(class) => (1, class.front_len(rest) > 0),
-            Many(class) => some(class.front_len(rest)),
+            Many(class) => length_and_whether_any(class.front_len(rest)),
             Any(class) => (class.front_len(rest), true),
-            To(closing) => some(end_of(rest, closing, false)),
-            Quoted => some(end_of(rest, b"\"", true)),
+            To(closing) => length_and_whether_any(len_through_first_closing(rest, closing, false)),
+            Quoted => length_and_whether_any(len_through_first_closing(rest, b"\"", true)),
             Unless(octets) => (0, !rest.starts_with(octets)),
             Is(_) => (0, true),
         };
@@ -157,12 +157,12 @@ impl SpellingPart {
 }
 
 /// So many octets, if there are any.
-fn some(octets: usize) -> (usize, bool) {
+fn length_and_whether_any(octets: usize) -> (usize, bool) {
     (octets, octets > 0)
 }
 
 /// How many octets there are up to the end of the first closing, 0 without one; a backslash may take the octet after it.
-fn end_of(text: &[u8], closing: &[u8], skips_escaped: bool) -> usize {
+fn len_through_first_closing(text: &[u8], closing: &[u8], skips_escaped: bool) -> usize {
     let mut is_escaped = false;
     for at in 0..text.len() {
         if is_escaped {

@@ -1,4 +1,4 @@
-//! The product's reading of a text, event by event.
+//! The product's reading of a text, event by event, as long as each is in the line that the one before it gave.
 use crate::parsed_lines::ParsedLines;
 use pd_lex::Place;
 use pd_script::{Event, Header, MAX_EVENTS, NextEvent, next_event, read_header};

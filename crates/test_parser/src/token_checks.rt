@@ -23,12 +23,13 @@ impl TokenChecks {
     pub fn take(&mut self, part: GrammarPart, token: ReferenceToken<'_>) -> bool {
         match part {
             GrammarPart::Seconds(bound) => {
-                let is_time = token.is_number(PieceKind::Int)
-                    || token.is_number(PieceKind::Decimal);
-                is_time && self.fits(bound, token.microseconds())
+                let is_time = token.is_number_within_limit(PieceKind::Int)
+                    || token.is_number_within_limit(PieceKind::Decimal);
+                is_time && self.is_within_bound_noting_number(bound, token.microseconds())
             }
             GrammarPart::Number(bound) => {
-                token.is_number(PieceKind::Int) && self.fits(bound, token.whole())
+                token.is_number_within_limit(PieceKind::Int)
+                    && self.is_within_bound_noting_number(bound, token.whole())
             }
             GrammarPart::Opening(octet) => {
                 self.pairs = self.pairs.saturating_add(1);
@@ -38,12 +39,12 @@ impl TokenChecks {
                 self.pairs = self.pairs.saturating_sub(1);
                 token.is_symbol(&[octet])
             }
-            _ => part.is(token),
+            _ => part.is_met_by(token),
         }
     }
 
     /// Notes a number that later ones are compared with, and returns whether it fits those before it.
-    fn fits(&mut self, bound: Bound, number: u64) -> bool {
+    fn is_within_bound_noting_number(&mut self, bound: Bound, number: u64) -> bool {
         match bound {
             Bound::Free => true,
             Bound::First => {
@@ -61,12 +62,12 @@ impl TokenChecks {
 
 impl GrammarPart {
     /// Whether a token is what this part asks for, whatever came before it.
-    fn is(self, token: ReferenceToken<'_>) -> bool {
+    fn is_met_by(self, token: ReferenceToken<'_>) -> bool {
         match self {
             GrammarPart::ReferenceToken(kind) => token.kind.is(kind),
             GrammarPart::Symbol(octet) => token.is_symbol(&[octet]),
             GrammarPart::Named(name) => token.text == name,
-            GrammarPart::Hexadecimal => token.is_number(PieceKind::Hex),
+            GrammarPart::Hexadecimal => token.is_number_within_limit(PieceKind::Hex),
             GrammarPart::Letters => OctetSet::Flag.front_len(token.text) == token.text.len(),
             GrammarPart::Plain => !token.is_symbol(b"()[]{}"),
             GrammarPart::Argued => !token.is_symbol(b"()[]{},"),

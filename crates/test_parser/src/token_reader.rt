@@ -77,15 +77,15 @@ impl<'a> ReferenceToken<'a> {
     }
 
     /// Whether it is a number of this kind that isn't too large, of a Decimal in its whole part.
-    pub fn is_number(self, kind: PieceKind) -> bool {
+    pub fn is_number_within_limit(self, kind: PieceKind) -> bool {
         self.kind.is(kind) && self.whole() <= MAX_NUMBER
     }
 
     /// The value of an Int or a Hex, or of the digits of a Decimal before its point, as great as it can be.
     pub fn whole(self) -> u64 {
         match self.text {
-            [b'0', b'x', digits @ ..] => value_of(digits, 16),
-            text => value_of(split_at_mark(text, b'.').0, 10),
+            [b'0', b'x', digits @ ..] => saturating_value_of_digits(digits, 16),
+            text => saturating_value_of_digits(split_at_mark(text, b'.').0, 10),
         }
     }
 
@@ -95,23 +95,23 @@ impl<'a> ReferenceToken<'a> {
         let mut value = self.whole();
         for place in 0..6 {
             let digit = decimals.get(place).copied().unwrap_or(b'0');
-            value = with_digit(value, digit, 10);
+            value = saturating_with_digit(value, digit, 10);
         }
         value
     }
 }
 
 /// The value of digits.
-pub fn value_of(digits: &[u8], base: u64) -> u64 {
+pub fn saturating_value_of_digits(digits: &[u8], base: u64) -> u64 {
     let mut value = 0u64;
     for digit in digits {
-        value = with_digit(value, *digit, base);
+        value = saturating_with_digit(value, *digit, base);
     }
     value
 }
 
 /// The value with one more digit.
-fn with_digit(value: u64, digit: u8, base: u64) -> u64 {
+fn saturating_with_digit(value: u64, digit: u8, base: u64) -> u64 {
     let digit = char::from(digit).to_digit(16).unwrap_or(0);
     value.saturating_mul(base).saturating_add(u64::from(digit))
 }

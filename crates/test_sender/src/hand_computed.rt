@@ -1,4 +1,4 @@
-//! Answers and moments whose octets were worked out by hand.
+//! Writes how the product renders some answers and moments, to be held against octets that were worked out by hand.
 use crate::output::OutputText;
 use pd_print::{render_answer, render_seconds_with_six_decimals, render_time};
 use pd_script::Time;

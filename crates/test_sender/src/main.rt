@@ -35,17 +35,17 @@ use std::rt::Files;
 
 fn main(rt: HostRuntime) -> io::Result<()> {
     let mut tables = SenderTables::new(rt.alloc());
-    run_tables(&rt, &mut tables);
+    run_tables_and_scripts(&rt, &mut tables);
     tables.output.print(&rt)
 }
 
 /// Runs the tables and the scripts.
-fn run_tables(rt: &(impl Input + Files + AllocGlobal), tables: &mut SenderTables) {
-    tables.run_tables(rt, "worked.txt");
+fn run_tables_and_scripts(rt: &(impl Input + Files + AllocGlobal), tables: &mut SenderTables) {
+    tables.run_tables_of_file(rt, "worked.txt");
     write_answers(rt.alloc(), &mut tables.output);
     write_times(rt.alloc(), &mut tables.output);
-    tables.run_tables(rt, "random_packets.txt");
-    tables.run_tables(rt, "random_boards.txt");
+    tables.run_tables_of_file(rt, "random_packets.txt");
+    tables.run_tables_of_file(rt, "random_boards.txt");
     match io::read_to_string(rt.alloc(), rt.reader()) {
         Ok(scripts) => write_all_states(rt.alloc(), scripts.as_str(), &mut tables.output),
         Err(_) => tables.output.is_whole = false,

@@ -4,7 +4,7 @@ use crate::read_back::is_read_back;
 use crate::rows::{NO_MEMORY, RowReader};
 use pd_print::render_sent_segment_event;
 use pd_script::Time;
-use pd_seg::{Flags, SackSpans, SegOption, SegOptions, Segment, Sent, Span};
+use pd_seg::{Flags, SackSpans, SegOption, SegOptions, Segment, SendRule, Sent, Span};
 use std::alloc::Global;
 
 /// Writes a packet, reads it back and copies it. The text is the rest of the row; where the row has none, it is printed.
@@ -13,21 +13,22 @@ pub fn run_packet(alloc: Global, row: &mut RowReader<'_>, output: &mut OutputTex
     let sent = Sent {
         segment: read_segment(alloc, row),
         at: 200_000,
+        rule: SendRule::NewData,
     };
     row.check("its copy", is_copied(&sent));
     match render_sent_segment_event(alloc, time, &sent.segment) {
         Ok(text) => {
             let text = text.as_slice();
             row.check("what is read back", is_read_back(alloc, text, time, &sent));
-            compare(text, row, output);
+            compare_or_print_octets(text, row, output);
         }
         Err(_) => row.note(NO_MEMORY),
     }
 }
 
 /// Compares what is written with the rest of the row, or says it.
-fn compare(text: &[u8], row: &mut RowReader<'_>, output: &mut OutputText) {
-    let wanted = row.all();
+fn compare_or_print_octets(text: &[u8], row: &mut RowReader<'_>, output: &mut OutputText) {
+    let wanted = row.take_all_words_left();
     if wanted.is_empty() {
         output.octets(text);
         output.push_str("\n");
@@ -57,9 +58,9 @@ fn read_time(row: &mut RowReader<'_>) -> Time {
 fn read_segment(alloc: Global, row: &mut RowReader<'_>) -> Segment {
     Segment {
         flags: read_flags(row.word()),
-        start: row.octets(),
-        end: row.octets(),
-        ack: row.octets(),
+        start: row.octet_number_or_count(),
+        end: row.octet_number_or_count(),
+        ack: row.octet_number_or_count(),
         win: row.short(),
         options: read_options(alloc, row),
     }
@@ -91,7 +92,7 @@ fn read_option(alloc: Global, row: &mut RowReader<'_>) -> SegOption {
         "mss" => SegOption::Mss(row.short()),
         "wscale" => SegOption::Wscale(row.word().parse::<u8>().unwrap_or(0)),
         "sackOK" => SegOption::SackOk,
-        "TS" => SegOption::Timestamp(row.octets(), row.octets()),
+        "TS" => SegOption::Timestamp(row.octet_number_or_count(), row.octet_number_or_count()),
         "sack" => SegOption::Sack(read_blocks(alloc, row)),
         "nop" => SegOption::Nop,
         _ => SegOption::Eol,
@@ -103,8 +104,8 @@ fn read_blocks(alloc: Global, row: &mut RowReader<'_>) -> SackSpans {
     let mut blocks = SackSpans::new(alloc);
     for _block in 0..row.number() {
         let block = Span {
-            start: row.octets(),
-            end: row.octets(),
+            start: row.octet_number_or_count(),
+            end: row.octet_number_or_count(),
         };
         if blocks.push(block).is_err() {
             row.note(NO_MEMORY);

@@ -27,7 +27,7 @@ impl<'a> RowReader<'a> {
     }
 
     /// All words that are left.
-    pub fn all(&mut self) -> &'a str {
+    pub fn take_all_words_left(&mut self) -> &'a str {
         let rest = self.rest;
         self.rest = "";
         rest
@@ -39,7 +39,7 @@ impl<'a> RowReader<'a> {
     }
 
     /// The same as an octet's number, or as a count of octets.
-    pub fn octets(&mut self) -> u32 {
+    pub fn octet_number_or_count(&mut self) -> u32 {
         self.word().parse::<u32>().unwrap_or(0)
     }
 
@@ -75,7 +75,7 @@ impl<'a> RowReader<'a> {
     }
 
     pub fn expect(&mut self, what: &'static str, answer: u32) {
-        if self.octets() != answer {
+        if self.octet_number_or_count() != answer {
             self.note(what);
         }
     }

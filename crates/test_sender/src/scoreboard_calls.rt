@@ -1,4 +1,4 @@
-//! A scoreboard and congestion control, and the calls that rows make on them.
+//! A scoreboard and congestion control, and rows' calls that change them (`write` queues octets) or compare their answers.
 ghost use Rattle.pd_recover.specs.Acks.{IsAck};
 
 use crate::rows::{NO_MEMORY, RowReader};
@@ -48,7 +48,7 @@ fn settings(ssthresh: u64, limit: u64, algorithm: &str) -> Settings {
 }
 
 /// The sending that an ACK leads to, in a word, and its segment if it has one.
-fn named(then: AckAction) -> (&'static str, Option<Span>) {
+fn action_word_and_segment(then: AckAction) -> (&'static str, Option<Span>) {
     match then {
         AckAction::Ordinary => ("ordinary", None),
         AckAction::StepC => ("step-c", None),
@@ -61,7 +61,7 @@ fn named(then: AckAction) -> (&'static str, Option<Span>) {
 }
 
 /// The rule of NextSeg that gave a segment, in a word.
-fn rule(sent: NextSegment) -> &'static str {
+fn nextseg_rule_word(sent: NextSegment) -> &'static str {
     match sent {
         NextSegment::Lost(_) => "lost",
         NextSegment::New(_) => "new",
@@ -106,7 +106,7 @@ impl ScoreboardCalls {
             "enter" => self.note_entry_retransmit(row),
             "pipe" => row.expect("the pipe", self.board.pipe(self.window.high_rxt())),
             "pace" => self.set_prr_cwnd(row),
-            "next" => self.recover(row),
+            "next" => self.compare_and_note_step_c_segment(row),
             "limited" => self.transmit_limited(row),
             "restart" => self
                 .window
@@ -139,12 +139,14 @@ impl ScoreboardCalls {
     /// Octets are queued, up to a limit.
     fn write(&mut self, row: &mut RowReader<'_>) {
         let room = MOST.saturating_sub(self.board.end());
-        self.board.write(row.octets().min(room));
+        self.board.write(row.octet_number_or_count().min(room));
     }
 
     /// A segment is sent.
     fn send(&mut self, row: &mut RowReader<'_>) {
-        let end = row.octets().clamp(self.board.una(), self.board.end());
+        let end = row
+            .octet_number_or_count()
+            .clamp(self.board.una(), self.board.end());
         let _ = self.board.sent(end);
     }
 
@@ -159,7 +161,9 @@ impl ScoreboardCalls {
 
     /// Octets are acknowledged.
     fn acknowledge(&mut self, row: &mut RowReader<'_>) {
-        let number = row.octets().clamp(self.board.una(), self.board.top());
+        let number = row
+            .octet_number_or_count()
+            .clamp(self.board.una(), self.board.top());
         self.sacked = self.board.sacked_octets();
         self.undelivered_octets = self.board.undelivered_octets();
         self.lost_edge = self.board.after_last_lost_octet_or_zero();
@@ -168,8 +172,8 @@ impl ScoreboardCalls {
 
     /// A block is SACKed.
     fn mark(&mut self, row: &mut RowReader<'_>) {
-        let start = row.octets();
-        let end = row.octets().min(self.board.top());
+        let start = row.octet_number_or_count();
+        let end = row.octet_number_or_count().min(self.board.top());
         let is_new = self.board.mark(Span { start, end }).unwrap_or(false);
         row.expect("a new octet", u32::from(is_new));
     }
@@ -177,7 +181,7 @@ impl ScoreboardCalls {
     /// An ACK arrives, once its number and its blocks are noted.
     fn receive_ack(&mut self, row: &mut RowReader<'_>) {
         let ack = self.ack(row);
-        let (word, segment) = named(self.window.on_ack(ack));
+        let (word, segment) = action_word_and_segment(self.window.on_ack(ack));
         row.expect_word("what an ACK leads to", word);
         row.expect_segment("the segment that an ACK leads to", segment);
     }
@@ -186,8 +190,8 @@ impl ScoreboardCalls {
     fn ack(&self, row: &mut RowReader<'_>) -> Ack
         ensures { IsAck result }
     {
-        let acked = row.octets();
-        let rwnd = row.octets();
+        let acked = row.octet_number_or_count();
+        let rwnd = row.octet_number_or_count();
         let same_window = row.is_set();
         Ack {
             smss: self.board.smss(),
@@ -196,15 +200,15 @@ impl ScoreboardCalls {
             end: self.board.end(),
             rwnd,
             acked,
-            delivery: self.delivery(acked),
+            delivery: self.delivery_of_ack(acked),
             same_window,
             fin: false,
-            sack: self.sack_news(row.word()),
+            sack: self.sack_news_of_word(row.word()),
         }
     }
 
     /// The octets that an ACK of so many delivered, by the scoreboard before it.
-    fn delivery(&self, acked: u32) -> Delivery {
+    fn delivery_of_ack(&self, acked: u32) -> Delivery {
         Delivery {
             delivered_data: acked
                 .saturating_add(self.board.sacked_octets())
@@ -215,7 +219,7 @@ impl ScoreboardCalls {
     }
 
     /// The report of the blocks of an ACK, where SACK was agreed.
-    fn sack_news(&self, word: &str) -> Option<SackNews> {
+    fn sack_news_of_word(&self, word: &str) -> Option<SackNews> {
         if word == "-" {
             return None;
         }
@@ -229,13 +233,14 @@ impl ScoreboardCalls {
     fn note_entry_retransmit(&mut self, row: &mut RowReader<'_>) {
         let segment = self.board.run_at(self.board.una());
         row.expect_segment("the segment of an entry", Some(segment));
-        self.window.set_high_and_rescue_rxt_to_segment_end(segment);
+        self.window
+            .set_high_and_rescue_rxt_and_count_prr_out(segment);
     }
 
     /// An ACK in recovery sets the window by PRR.
     fn set_prr_cwnd(&mut self, row: &mut RowReader<'_>) {
         self.window
-            .set_cwnd_pipe_plus_sndcnt_if_prr(self.board.smss(), row.octets());
+            .set_cwnd_pipe_plus_sndcnt_if_prr(self.board.smss(), row.octet_number_or_count());
         row.expect("the window by PRR", self.window.cwnd());
         let prr = self.window.prr();
         row.expect("prr_delivered", prr.prr_delivered);
@@ -243,12 +248,12 @@ impl ScoreboardCalls {
     }
 
     /// Step C finds its next segment.
-    fn recover(&mut self, row: &mut RowReader<'_>) {
-        let rwnd = row.octets();
-        let pipe = row.octets();
+    fn compare_and_note_step_c_segment(&mut self, row: &mut RowReader<'_>) {
+        let rwnd = row.octet_number_or_count();
+        let pipe = row.octet_number_or_count();
         match self.window.step_c_segment(&self.board, rwnd, pipe) {
             Some(sent) => {
-                row.expect_word("the rule of step C", rule(sent));
+                row.expect_word("the rule of step C", nextseg_rule_word(sent));
                 row.expect_segment("a segment of step C", Some(sent.segment()));
                 self.window.update_high_or_rescue_rxt_and_prr(&sent);
             }
@@ -258,8 +263,8 @@ impl ScoreboardCalls {
 
     /// Limited transmit finds its next segment.
     fn transmit_limited(&mut self, row: &mut RowReader<'_>) {
-        let rwnd = row.octets();
-        let pipe = row.octets();
+        let rwnd = row.octet_number_or_count();
+        let pipe = row.octet_number_or_count();
         let found = self
             .window
             .limited_transmit_segment(&self.board, rwnd, pipe);
@@ -282,7 +287,7 @@ impl ScoreboardCalls {
         row.expect("whether recovery goes on", is_recovering);
         self.compare_runs(row);
         self.compare_octet(row);
-        self.compare_after(row);
+        self.compare_after_high_rxt(row);
         row.expect_segment("the rescue", self.board.rescue());
         row.expect(
             "the last lost octet",
@@ -303,7 +308,9 @@ impl ScoreboardCalls {
 
     /// Compares what is answered of an octet.
     fn compare_octet(&self, row: &mut RowReader<'_>) {
-        let octet = row.octets().clamp(self.board.una(), self.board.top());
+        let octet = row
+            .octet_number_or_count()
+            .clamp(self.board.una(), self.board.top());
         let is_lost = u32::from(self.board.is_lost(octet));
         row.expect("whether an octet is lost", is_lost);
         let segment = self.board.run_at(octet);
@@ -312,8 +319,8 @@ impl ScoreboardCalls {
     }
 
     /// Compares what is answered where octets were sent again up to a number.
-    fn compare_after(&self, row: &mut RowReader<'_>) {
-        let high_rxt = row.octets();
+    fn compare_after_high_rxt(&self, row: &mut RowReader<'_>) {
+        let high_rxt = row.octet_number_or_count();
         row.expect("the pipe", self.board.pipe(high_rxt));
         row.expect_some("the next lost octet", self.board.next_lost(high_rxt));
         row.expect_some(

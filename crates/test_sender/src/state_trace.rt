@@ -55,10 +55,10 @@ impl Stepper for StateTrace {
     ) -> Result<StepEnd, AllocError> {
         let end = self.steps.step(state, event, settings);
         if let Ok(StepEnd::Go) = end {
-            self.is_copied = put_copy(state) && self.is_copied;
+            self.is_copied = replace_by_copy(state) && self.is_copied;
             self.note(state.conn_state());
         } else {
-            self.is_copied = is_copied(state) && self.is_copied;
+            self.is_copied = is_copy_halted_alike(state) && self.is_copied;
         }
         end
     }
@@ -69,7 +69,7 @@ impl Stepper for StateTrace {
 }
 
 /// Puts a copy in the place of the run; whether there was memory for one.
-fn put_copy(state: &mut RunState) -> bool
+fn replace_by_copy(state: &mut RunState) -> bool
     ensures { state.new ≡ state.old }
 {
     match state.copy() {
@@ -82,15 +82,16 @@ fn put_copy(state: &mut RunState) -> bool
 }
 
 /// Whether a copy of the run has halted as the run has, and a copy of its sender answers that.
-fn is_copied(state: &RunState) -> bool {
+fn is_copy_halted_alike(state: &RunState) -> bool {
     match state.copy() {
-        Ok(copy) => copy.host().end_reason() == state.host().end_reason() && answers_alike(state),
+        Ok(copy) => copy.host().end_reason() == state.host().end_reason()
+            && is_end_of_sender_copy_same(state),
         Err(_) => false,
     }
 }
 
 /// Whether a copy of the sender answers to what comes next how the sender has ended.
-fn answers_alike(state: &RunState) -> bool {
+fn is_end_of_sender_copy_same(state: &RunState) -> bool {
     match state.host().copy() {
         Ok(mut sender) => sender.advance(0).err() == state.host().end_reason(),
         Err(_) => false,

@@ -20,7 +20,7 @@ pub fn write_all_states(alloc: Global, scripts: &str, output: &mut OutputText) {
 
 fn write_states(alloc: Global, script: &str, output: &mut OutputText) {
     let mut text = OutputText::new(alloc);
-    put(script, &mut text);
+    write_script_in_full(script, &mut text);
     match one_line(alloc, text.as_str().as_bytes()) {
         Ok(lines) => run(alloc, &lines, output),
         Err(_) => output.is_whole = false,
@@ -29,7 +29,7 @@ fn write_states(alloc: Global, script: &str, output: &mut OutputText) {
 }
 
 /// Puts down the whole script.
-fn put(script: &str, text: &mut OutputText) {
+fn write_script_in_full(script: &str, text: &mut OutputText) {
     if !script.starts_with('0') {
         text.push_str(OPENING);
     }

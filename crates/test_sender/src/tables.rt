@@ -1,4 +1,4 @@
-//! Tables of rows, as files hold them. A table has packets, each a row, or lists of calls, each a row that begins with `list`
+//! Runs the rows of tables. A table has packets, each a row, or lists of calls, each a row that begins with `list`
 //! and the rows of its calls. A line `== TITLE` ends it.
 use crate::output::OutputText;
 use crate::packets::run_packet;
@@ -33,7 +33,7 @@ impl SenderTables {
     }
 
     /// Runs the tables of a file.
-    pub fn run_tables(&mut self, rt: &(impl Files + AllocGlobal), name: &str) {
+    pub fn run_tables_of_file(&mut self, rt: &(impl Files + AllocGlobal), name: &str) {
         match fs::read_to_string(rt, name) {
             Ok(rows) => self.run_rows(rows.as_str()),
             Err(_) => self.output.is_whole = false,
@@ -50,14 +50,14 @@ impl SenderTables {
     fn take(&mut self, written: &str) {
         let mut row = RowReader::new(written);
         match row.word() {
-            "#" => self.push_line(row.all()),
-            "==" => self.end(row.all()),
+            "#" => self.push_output_line(row.take_all_words_left()),
+            "==" => self.end(row.take_all_words_left()),
             "packet" => {
-                self.begin();
+                self.count_packet_or_list();
                 run_packet(self.alloc, &mut row, &mut self.output);
             }
             "list" => {
-                self.begin();
+                self.count_packet_or_list();
                 self.scoreboard_calls.begin(&mut row);
             }
             call => self.scoreboard_calls.make(call, &mut row),
@@ -68,13 +68,13 @@ impl SenderTables {
         }
     }
 
-    fn push_line(&mut self, line: &str) {
+    fn push_output_line(&mut self, line: &str) {
         self.output.push_str(line);
         self.output.push_str("\n");
     }
 
     /// A packet or a list begins.
-    fn begin(&mut self) {
+    fn count_packet_or_list(&mut self) {
         self.run = self.run.wrapping_add(1);
         self.differs = false;
     }

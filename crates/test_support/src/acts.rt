@@ -9,7 +9,7 @@ use pd_text::Name;
 pub fn write_acts(output: &mut AnswerText, acts: &[Act], is_whole: bool) {
     for act in acts {
         match act.copy() {
-            Ok(copy) => write_copy(output, act, &copy, is_whole),
+            Ok(copy) => write_act_by_copy(output, act, &copy, is_whole),
             Err(_) => {
                 output.clear();
                 return output.push_str(OUT_OF_MEMORY);
@@ -20,7 +20,7 @@ pub fn write_acts(output: &mut AnswerText, acts: &[Act], is_whole: bool) {
 }
 
 /// Says an act by a copy of it.
-fn write_copy(output: &mut AnswerText, act: &Act, copy: &Act, is_whole: bool) {
+fn write_act_by_copy(output: &mut AnswerText, act: &Act, copy: &Act, is_whole: bool) {
     if copy.is_same(act) {
         write_kind(output, copy);
         if is_whole {
@@ -40,12 +40,12 @@ fn write_kind(output: &mut AnswerText, act: &Act) {
         Act::Remove(_) => output.push_str("Remove"),
         Act::Set(..) => output.push_str("Set"),
         Act::Start(number, _) => output.count("Start ", *number, ""),
-        Act::Finish(number, ruling) => output.count("Finish ", *number, ruled(*ruling)),
+        Act::Finish(number, ruling) => output.count("Finish ", *number, ruling_word(*ruling)),
         Act::Abandon(number) => output.count("Abandon ", *number, ""),
     }
 }
 
-fn ruled(ruling: Ruling) -> &'static str {
+fn ruling_word(ruling: Ruling) -> &'static str {
     match ruling {
         Ruling::Taken => " Taken",
         Ruling::Stale => " Stale",

@@ -1,7 +1,7 @@
-//! A book alone, as rows call it. The promises of a book's calls stay in here.
+//! A book alone, as rows call it: also its report, how many verdicts are owed, and its acts. Its promises stay in here.
 use crate::calls::Calls;
 use crate::output::OUT_OF_MEMORY;
-use crate::replies::{abandoned, changed, finished, started};
+use crate::replies::{abandoned, changed, finished, started_job_or_reply};
 use crate::started_jobs::StartedJob;
 use pd_book::{Act, Book, Done, Report};
 use pd_settings::{Settings, Value};
@@ -41,7 +41,7 @@ impl Calls for BookCalls {
     }
 
     fn start(&mut self) -> Result<StartedJob, &'static str> {
-        started(self.book.start(), None)
+        started_job_or_reply(self.book.start(), None)
     }
 
     fn finish(&mut self, done: &Done, _seat: Option<usize>) -> &'static str {

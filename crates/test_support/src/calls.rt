@@ -1,9 +1,9 @@
-//! The calls of a book, alone or by a seat.
+//! Makes a row's call, if a book has it, alone or by a seat: changes, jobs, the report, how many verdicts are owed, acts.
 use crate::arguments::CallArguments;
-use crate::changes::change;
+use crate::changes::answer_if_change;
 use crate::jobs::work;
 use crate::output::AnswerText;
-use crate::queries::query;
+use crate::queries::answer_if_query;
 use crate::started_jobs::StartedJob;
 use crate::texts::Texts;
 use pd_book::{Act, Done, Report};
@@ -45,10 +45,10 @@ pub fn call<C: Calls>(
 ) -> bool {
     let acts = book.acts().len();
     let owed = book.owed();
-    let is_known = change(book, texts, word, arguments, output)
+    let is_known = answer_if_change(book, texts, word, arguments, output)
         || work(book, started_jobs, texts, word, arguments, output)
-        || query(book, started_jobs.as_slice(), word, arguments, output);
-    if output.is_out_of_memory() && (book.acts().len() != acts || book.owed() != owed) {
+        || answer_if_query(book, started_jobs.as_slice(), word, arguments, output);
+    if output.is_out_of_memory_answer() && (book.acts().len() != acts || book.owed() != owed) {
         output.push_str(", and something changed");
     }
     is_known

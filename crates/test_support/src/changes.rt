@@ -6,7 +6,7 @@ use crate::texts::Texts;
 use pd_text::Name;
 
 /// Makes a change; whether there is such a call.
-pub fn change<C: Calls>(
+pub fn answer_if_change<C: Calls>(
     book: &mut C,
     texts: &Texts,
     word: &str,

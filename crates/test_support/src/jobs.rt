@@ -1,11 +1,11 @@
-//! Jobs of a book: their start, their run and their end.
+//! Calls on jobs of a book, if a row's call is one: their start, their run and their end.
 ghost use Rattle.std.specs.Prelude.{◌<◌, vec_len, vec_capacity};
 
 use crate::arguments::CallArguments;
 use crate::calls::Calls;
 use crate::output::{AnswerText, NO_SUCH_THING, OUT_OF_MEMORY};
 use crate::results::{write_run, write_start};
-use crate::started_jobs::{RunResult, StartedJob, run};
+use crate::started_jobs::{RunResult, StartedJob, run_for_result};
 use crate::texts::Texts;
 use crate::values::with;
 use pd_book::Job;
@@ -27,7 +27,7 @@ pub fn work<C: Calls>(
         "run" => answer_run(started_jobs, texts, arguments, output),
         "checkpoint" => answer_checkpoint(started_jobs, texts, arguments, output),
         "finish" => answer_finish(book, started_jobs, texts, arguments, output),
-        "give" => give(book, started_jobs, texts, arguments, output),
+        "give" => finish_with_foreign_result(book, started_jobs, texts, arguments, output),
         "abandon" => abandon(book, started_jobs, arguments, output),
         _ => return false,
     }
@@ -40,12 +40,16 @@ fn start<C: Calls>(book: &mut C, started_jobs: &mut Vec<StartedJob>, output: &mu
         return output.push_str(OUT_OF_MEMORY);
     }
     match book.start() {
-        Ok(task) => keep(started_jobs, task, output),
+        Ok(task) => write_and_keep_started_job(started_jobs, task, output),
         Err(word) => output.push_str(word),
     }
 }
 
-fn keep(started_jobs: &mut Vec<StartedJob>, task: StartedJob, output: &mut AnswerText)
+fn write_and_keep_started_job(
+    started_jobs: &mut Vec<StartedJob>,
+    task: StartedJob,
+    output: &mut AnswerText,
+)
     requires { vec_len started_jobs.old < vec_capacity started_jobs.old }
 {
     write_start(output, &task.job);
@@ -66,13 +70,13 @@ fn seat_of(started_jobs: &[StartedJob], number: u64) -> Option<usize> {
 }
 
 /// The result of the job of a number, or why there is none.
-fn result_of<'a>(
+fn result_of_job_run_if_needed<'a>(
     started_jobs: &'a mut Vec<StartedJob>,
     texts: &Texts,
     number: u64,
 ) -> Result<&'a RunResult, &'static str> {
     match started_jobs.get_mut((number as usize).wrapping_sub(1)) {
-        Some(task) => task.result(texts.alloc).ok_or(OUT_OF_MEMORY),
+        Some(task) => task.result_run_if_needed(texts.alloc).ok_or(OUT_OF_MEMORY),
         None => Err(NO_SUCH_THING),
     }
 }
@@ -84,7 +88,7 @@ fn answer_run(
     arguments: &mut CallArguments<'_>,
     output: &mut AnswerText,
 ) {
-    match result_of(started_jobs, texts, arguments.number()) {
+    match result_of_job_run_if_needed(started_jobs, texts, arguments.number()) {
         Ok(ran) => write_run(output, ran.done.verdict(), ran.steps),
         Err(word) => output.push_str(word),
     }
@@ -97,7 +101,7 @@ fn answer_checkpoint(
     arguments: &mut CallArguments<'_>,
     output: &mut AnswerText,
 ) {
-    match result_of(started_jobs, texts, arguments.number()) {
+    match result_of_job_run_if_needed(started_jobs, texts, arguments.number()) {
         Ok(ran) => match ran.done.track().checkpoint(arguments.number() as usize) {
             Some(checkpoint) => output.count("clock ", checkpoint.state().clock(), " us"),
             None => output.push_str("none"),
@@ -107,13 +111,13 @@ fn answer_checkpoint(
 }
 
 /// Says how many steps a job took, which is run first if it wasn't yet.
-pub fn write_steps(
+pub fn write_step_count(
     started_jobs: &mut Vec<StartedJob>,
     texts: &Texts,
     number: u64,
     output: &mut AnswerText,
 ) {
-    match result_of(started_jobs, texts, number) {
+    match result_of_job_run_if_needed(started_jobs, texts, number) {
         Ok(ran) => output.number(ran.steps),
         Err(word) => output.push_str(word),
     }
@@ -127,7 +131,7 @@ pub fn finish<C: Calls>(
     number: u64,
 ) -> &'static str {
     let seat = seat_of(started_jobs.as_slice(), number);
-    match result_of(started_jobs, texts, number) {
+    match result_of_job_run_if_needed(started_jobs, texts, number) {
         Ok(ran) => book.finish(&ran.done, seat),
         Err(word) => word,
     }
@@ -144,21 +148,21 @@ fn answer_finish<C: Calls>(
 }
 
 /// Finishes a job with the result of one that no book handed out.
-fn give<C: Calls>(
+fn finish_with_foreign_result<C: Calls>(
     book: &mut C,
     started_jobs: &[StartedJob],
     texts: &Texts,
     arguments: &mut CallArguments<'_>,
     output: &mut AnswerText,
 ) {
-    match foreign(started_jobs, texts, arguments) {
+    match foreign_job_from_arguments(started_jobs, texts, arguments) {
         Ok(job) => output.push_str(finish_foreign(book, texts.alloc, job)),
         Err(fault) => output.push_str(fault.number_and_name()),
     }
 }
 
 fn finish_foreign<C: Calls>(book: &mut C, alloc: Global, job: Job) -> &'static str {
-    match run(alloc, job) {
+    match run_for_result(alloc, job) {
         Some(ran) => book.finish(&ran.done, None),
         None => OUT_OF_MEMORY,
     }
@@ -166,7 +170,7 @@ fn finish_foreign<C: Calls>(book: &mut C, alloc: Global, job: Job) -> &'static s
 
 /// The job of the number, the script, the tolerance and the text that a call names, with the other settings of the job of
 /// that number.
-fn foreign(
+fn foreign_job_from_arguments(
     started_jobs: &[StartedJob],
     texts: &Texts,
     arguments: &mut CallArguments<'_>,

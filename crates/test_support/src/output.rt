@@ -101,7 +101,7 @@ impl AnswerText {
     }
 
     /// Whether the call found no memory.
-    pub fn is_out_of_memory(&self) -> bool {
+    pub fn is_out_of_memory_answer(&self) -> bool {
         self.as_str() == OUT_OF_MEMORY
     }
 

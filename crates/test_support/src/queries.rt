@@ -1,4 +1,4 @@
-//! Looks at a book, which change nothing.
+//! Calls that change nothing: they say a book's report and how many verdicts are owed, its acts, or a job that it gave.
 use crate::acts::write_acts;
 use crate::arguments::CallArguments;
 use crate::calls::Calls;
@@ -9,7 +9,7 @@ use crate::started_jobs::StartedJob;
 use pd_book::Act;
 
 /// Looks at a book, or at a job; whether there is such a call.
-pub fn query<C: Calls>(
+pub fn answer_if_query<C: Calls>(
     book: &mut C,
     started_jobs: &[StartedJob],
     word: &str,
@@ -21,13 +21,13 @@ pub fn query<C: Calls>(
         "whole" => show(book, output, true),
         "owed" => write_owed(output, book.owed()),
         "job" => answer_job(started_jobs, arguments, output),
-        _ => return query_history(book.acts(), word, output),
+        _ => return answer_if_acts_query(book.acts(), word, output),
     }
     true
 }
 
 /// Looks at the acts of a book; whether there is such a call.
-fn query_history(acts: &[Act], word: &str, output: &mut AnswerText) -> bool {
+fn answer_if_acts_query(acts: &[Act], word: &str, output: &mut AnswerText) -> bool {
     match word {
         "acts" => write_acts(output, acts, false),
         "log" => write_acts(output, acts, true),

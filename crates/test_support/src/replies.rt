@@ -11,7 +11,7 @@ pub fn changed(reply: Result<(), BookFault>) -> &'static str {
 }
 
 /// The job that was started, by this seat if there are seats; `none`, or the refusal.
-pub fn started(
+pub fn started_job_or_reply(
     reply: Result<Option<Job>, BookFault>,
     seat: Option<usize>,
 ) -> Result<StartedJob, &'static str> {

@@ -6,7 +6,7 @@ use pd_run::{Kind, Verdict};
 use pd_text::Lines;
 
 /// The text after the line of an event that failed.
-fn failed(kind: Kind) -> &'static str {
+fn text_after_failed_line(kind: Kind) -> &'static str {
     match kind {
         Kind::Time => ", Time)",
         Kind::Flags => ", Flags)",
@@ -21,10 +21,10 @@ fn failed(kind: Kind) -> &'static str {
 }
 
 /// The class of a verdict, in full and in short, its number, and what follows that in full.
-fn parts(verdict: Verdict) -> (&'static str, &'static str, usize, &'static str) {
+fn written_parts_of_verdict(verdict: Verdict) -> (&'static str, &'static str, usize, &'static str) {
     match verdict {
         Verdict::Pass(events) => ("Pass(", "pass ", events, ")"),
-        Verdict::Fail(line, kind) => ("Fail(", "fail ", line, failed(kind)),
+        Verdict::Fail(line, kind) => ("Fail(", "fail ", line, text_after_failed_line(kind)),
         Verdict::Syntax(line) => ("Syntax(", "syntax ", line, ")"),
         Verdict::Unsupported(line) => ("Unsupported(", "unsupported ", line, ")"),
         Verdict::Limit(line) => ("Limit(", "limit ", line, ")"),
@@ -32,7 +32,7 @@ fn parts(verdict: Verdict) -> (&'static str, &'static str, usize, &'static str) 
 }
 
 pub fn write_verdict(output: &mut AnswerText, verdict: Verdict) {
-    let (full, short, number, after) = parts(verdict);
+    let (full, short, number, after) = written_parts_of_verdict(verdict);
     match output.form {
         AnswerForm::Short => output.count(short, number as u64, ""),
         AnswerForm::Full => output.count(full, number as u64, after),
@@ -79,7 +79,7 @@ pub fn write_owed(output: &mut AnswerText, owed: Option<usize>) {
 }
 
 /// Says a job's number and script.
-fn write_task(output: &mut AnswerText, job: &Job) {
+fn write_job_number_and_script(output: &mut AnswerText, job: &Job) {
     output.count("", job.number(), " ");
     output.push_octets(job.name().as_slice());
     output.push_str(", ");
@@ -87,7 +87,7 @@ fn write_task(output: &mut AnswerText, job: &Job) {
 
 /// Writes a job's number, script and lines, and its tolerance unless the form is short.
 pub fn write_start(output: &mut AnswerText, job: &Job) {
-    write_task(output, job);
+    write_job_number_and_script(output, job);
     output.count("", job.text().lines().len() as u64, " lines");
     match output.form {
         AnswerForm::Short => {}
@@ -97,7 +97,7 @@ pub fn write_start(output: &mut AnswerText, job: &Job) {
 
 /// Says a job in whole: its number, script, settings and text.
 pub fn write_job(output: &mut AnswerText, job: &Job) {
-    write_task(output, job);
+    write_job_number_and_script(output, job);
     write_settings(output, &job.settings());
     write_lines(output, job.text().lines());
 }

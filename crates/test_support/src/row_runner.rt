@@ -75,7 +75,7 @@ impl RowRunner {
     }
 
     /// Counts a transcript.
-    pub fn begin_transcript(&mut self) {
+    pub fn count_transcript(&mut self) {
         self.transcripts = self.transcripts.wrapping_add(1);
     }
 
@@ -86,8 +86,9 @@ impl RowRunner {
     }
 
     /// Whether the call of a row found no memory, and is to be made again.
-    pub fn is_out_of_memory(&mut self, row: &str) -> bool {
-        let is_out_of_memory = self.output.is_out_of_memory() && answers_of(row) != OUT_OF_MEMORY;
+    pub fn must_repeat_for_memory(&mut self, row: &str) -> bool {
+        let is_out_of_memory = self.output.is_out_of_memory_answer()
+            && answers_of(row) != OUT_OF_MEMORY;
         self.is_repeated |= is_out_of_memory;
         is_out_of_memory
     }

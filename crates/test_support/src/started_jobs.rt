@@ -28,11 +28,11 @@ impl StartedJob {
     }
 
     /// The result of the job, which is run if it wasn't yet; none where there was no memory, and it may be run again.
-    pub fn result(&mut self, alloc: Global) -> Option<&RunResult> {
+    pub fn result_run_if_needed(&mut self, alloc: Global) -> Option<&RunResult> {
         if self.ran.is_none()
             && let Ok(job) = copy_of(&self.job)
         {
-            self.ran = run(alloc, job);
+            self.ran = run_for_result(alloc, job);
         }
         self.ran.as_ref()
     }
@@ -48,7 +48,7 @@ fn copy_of(job: &Job) -> Result<Job, AllocError> {
 }
 
 /// Runs a job; none where there was no memory.
-pub fn run(alloc: Global, job: Job) -> Option<RunResult> {
+pub fn run_for_result(alloc: Global, job: Job) -> Option<RunResult> {
     let mut stepper = Plain::new();
     match run_job(alloc, job, &mut stepper) {
         Ok(done) => Some(RunResult {

@@ -28,7 +28,7 @@ impl Texts {
     /// From now on a word stands for these lines.
     pub fn define(&mut self, word: &str, lines: &str) -> Result<(), AllocError> {
         let word = String::from_str(self.alloc, word)?;
-        let lines = self.list(lines)?;
+        let lines = self.line_list_of_written(lines)?;
         self.meanings
             .push(Meaning { word, lines })
             .or(Err(AllocError))
@@ -46,7 +46,7 @@ impl Texts {
     }
 
     /// The list of the lines and words that are written, parted by ` | `.
-    fn list(&self, written: &str) -> Result<LineList, AllocError> {
+    fn line_list_of_written(&self, written: &str) -> Result<LineList, AllocError> {
         let mut list = LineList::new(self.alloc);
         let mut is_whole = true;
         for word in written.split(" | ") {
@@ -68,16 +68,16 @@ impl Texts {
         let mut arguments = CallArguments::new(written);
         match arguments.word() {
             "" => Ok(()),
-            "(empty)" => list.push_unless_newline_inside(b""),
-            "(blanks)" => self.add_blanks(list, arguments.number() as usize),
-            _ => list.push_unless_newline_inside(written.as_bytes()),
+            "(empty)" => list.push_or_ignore_if_newline_inside(b""),
+            "(blanks)" => self.add_line_of_blanks(list, arguments.number() as usize),
+            _ => list.push_or_ignore_if_newline_inside(written.as_bytes()),
         }
     }
 
-    fn add_blanks(&self, list: &mut LineList, count: usize) -> Result<(), AllocError> {
+    fn add_line_of_blanks(&self, list: &mut LineList, count: usize) -> Result<(), AllocError> {
         let mut blanks = Vec::new(self.alloc);
         blanks.resize(count, b' ')?;
-        list.push_unless_newline_inside(blanks.as_slice())
+        list.push_or_ignore_if_newline_inside(blanks.as_slice())
     }
 
     /// The text that is written.
@@ -85,7 +85,7 @@ impl Texts {
     /// # Errors
     /// `TooLarge` where it is over the limits of a text.
     pub fn text(&self, written: &str) -> Result<Lines, TextFault> {
-        Lines::new(self.list(written)?)
+        Lines::new(self.line_list_of_written(written)?)
     }
 
     /// The edit that is written: its first line, how many lines go, and those that come.
@@ -93,7 +93,7 @@ impl Texts {
         Ok(LineEdit {
             from: arguments.number() as usize,
             remove: arguments.number() as usize,
-            insert: self.list(arguments.rest)?,
+            insert: self.line_list_of_written(arguments.rest)?,
         })
     }
 

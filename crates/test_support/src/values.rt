@@ -7,7 +7,7 @@ pub fn with(settings: &Settings, key: &[u8], value: Value) -> Result<Settings, S
     settings.with(key, value)
 }
 
-pub fn value_of(settings: &Settings, key: Key) -> Value {
+pub fn value_of_setting(settings: &Settings, key: Key) -> Value {
     settings.value_at(key)
 }
 
@@ -32,7 +32,7 @@ pub fn write_setting(output: &mut AnswerText, key: Key, value: Value) {
 /// Says what each setting is set to.
 pub fn write_settings(output: &mut AnswerText, settings: &Settings) {
     for key in Key::ALL.iter() {
-        write_setting(output, *key, value_of(settings, *key));
+        write_setting(output, *key, value_of_setting(settings, *key));
         output.push_str(", ");
     }
 }

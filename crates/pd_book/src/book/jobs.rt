@@ -1,4 +1,4 @@
-//! Jobs that a book hands out, and results that come back.
+//! Jobs that a book hands out, numbered from 1 in order of starting, and results that come back.
 ghost use Rattle.std.specs.Prelude.{◌≡◌, ◌≢◌, ◌+◌, ◌≤◌, is_some, length, IsSome, OnOk, OnErr, IfOk, IfErr, IfSome, None, Some, option_map, option_copied};
 ghost use Rattle.std.specs.Map.Iter.{deref_pair};
 ghost use Rattle.pd_book.specs.Acts.{present_text, has_script, next, now, started, jobs, job, is_unchanged_since_start, ruling};
@@ -12,7 +12,7 @@ ghost use Rattle.pd_book.specs.Refusals.{history_full_fault_unless_space_for, st
 use super::Book;
 use crate::act::{Act, Ruling};
 use crate::faults::{BookFault, FinishFault};
-use crate::records::{PendingStart, find_task_by_number};
+use crate::records::{PendingStart, task_with_number_if_any};
 use pd_text::{Name, Text};
 use pd_track::{Done, Job, Task};
 use std::alloc::AllocError;
@@ -148,7 +148,7 @@ impl Book {
     fn find_outstanding_task_by_number(&self, number: u64) -> Option<&Task>
         ensures { option_copied result ≡ job self.now.history.opening self.now.history.past number }
     {
-        find_task_by_number(self.records.tasks.as_slice(), number)
+        task_with_number_if_any(self.records.tasks.as_slice(), number)
     }
 
     /// How many jobs are outstanding.

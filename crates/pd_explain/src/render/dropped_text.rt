@@ -1,7 +1,6 @@
 //! The text of blocks on a segment that a check dropped.
-use crate::causes::sentences::{Phrase, put_concatenated_phrases};
-use crate::dropped::DroppedSegment;
 use Phrase::{Number, Words};
+use pd_cause::{DroppedSegment, Phrase, put_concatenated_phrases};
 use pd_host::SegmentCheck;
 use std::alloc::{AllocError, Global};
 

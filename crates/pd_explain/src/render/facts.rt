@@ -3,13 +3,12 @@ ghost use Rattle.std.specs.Prelude.{◌≡◌, ◌∷◌, [], ◌++◌, codes, s
 ghost use Rattle.pd_explain.specs.BlockLines.{failure_texts, origin_text, packet_texts};
 ghost use Rattle.pd_explain.specs.Inner.{AddsFacts, AddsNumbers, BeginsWith, fact_texts, loss_evidence_numbers, sack_evidence_numbers};
 
-use crate::causes::{
-    Cause, ExpectedTime, Failed, Failure, MissingPacket, Outlook, TimeBackwards, WrongPacket,
-    WrongResult, applied_rto_bound, computed_rto_us_capped_at_u64,
+use pd_cause::{
+    Cause, ExpectedTime, Failed, Failure, MissingPacket, Origin, Outlook, TimeBackwards,
+    WrongPacket, WrongResult, applied_rto_bound, computed_rto_us_capped_at_u64,
 };
-use crate::origins::Origin;
-use crate::rules::Rule;
 use pd_host::{DupAckEffect, LossEvidence, SackEvidence};
+use pd_refusal::Rule;
 use pd_timer::Timeout;
 use std::alloc::{AllocError, Global};
 
@@ -111,7 +110,7 @@ fn put_wrong_packet<'a>(
     ensures { OnOk result (AddsFacts (failure_texts (Failed.Packet packets.now) (slice_get origins.now 0)) facts.old.items facts.new.items) }
 {
     put_compared_packets(facts, packets, origins.first().copied())?;
-    put_unexpected_count_and_time(facts, packets)
+    put_unexpected_count_and_expected_time(facts, packets)
 }
 
 /// Adds both packets, and when the actual one was sent.
@@ -133,7 +132,7 @@ fn put_compared_packets<'a>(
 
 /// Adds how many packets before the awaited one no line asks for, and when that one was awaited, where its time differs.
 #[tactic(auto, using(crate::proofs::FactLemmas::any_facts, crate::proofs::FactLemmas::no_facts, crate::proofs::FactLemmas::then_facts))]
-fn put_unexpected_count_and_time<'a>(
+fn put_unexpected_count_and_expected_time<'a>(
     facts: &mut Facts<'a>,
     packets: &'a WrongPacket,
 ) -> Result<(), AllocError>
@@ -195,7 +194,7 @@ fn put_missing_packet<'a>(
 {
     put_script_packet(facts, &missing_packet.script)?;
     put_awaited_time_and_timer(facts, missing_packet)?;
-    put_rto_estimate(facts, &missing_packet.outlook)?;
+    put_rto_derivation_if_timer_runs(facts, &missing_packet.outlook)?;
     put_reason_not_sent(facts, missing_packet)?;
     put_dup_ack_effect_on_recovery(facts, &missing_packet.outlook)?;
     put_sacked(facts, &missing_packet.outlook)
@@ -227,7 +226,7 @@ fn put_awaited_time_and_timer<'a>(
     facts.extend_from_slice(&[named_fact(
         "timer expires",
         "timer_us",
-        moment_or_nothing(missing_packet.expiry, "never, it doesn't run"),
+        fact_value_of_moment_or_nothing(missing_packet.expiry, "never, it doesn't run"),
     )])
 }
 
@@ -247,7 +246,10 @@ fn put_reason_not_sent<'a>(
 
 /// Adds how RTO comes about, where the timer runs and a round trip was measured.
 #[tactic(auto, using(crate::proofs::FactLemmas::any_facts, crate::proofs::FactLemmas::no_facts, crate::proofs::FactLemmas::then_facts))]
-fn put_rto_estimate<'a>(facts: &mut Facts<'a>, outlook: &'a Outlook) -> Result<(), AllocError>
+fn put_rto_derivation_if_timer_runs<'a>(
+    facts: &mut Facts<'a>,
+    outlook: &'a Outlook,
+) -> Result<(), AllocError>
     ensures { OnOk result (AddsFacts [] facts.old.items facts.new.items) }
 {
     let words = &outlook.timeout_words;
@@ -319,13 +321,16 @@ fn put_loss_evidence<'a>(
     ensures adds { OnOk result (AddsFacts [] facts.old.items facts.new.items) }
     ensures numbers { OnOk result (AddsNumbers (loss_evidence_numbers loss_evidence) facts.old.items facts.new.items) }
 {
-    put_duplicates(facts, loss_evidence)?;
+    put_duplicates_counted_and_needed(facts, loss_evidence)?;
     put_sack_evidence(facts, loss_evidence.sacked)
 }
 
 /// Adds how many duplicates came, and how many have to come.
 #[tactic(auto, using(crate::proofs::FactLemmas::any_facts, crate::proofs::FactLemmas::whole_numbers))]
-fn put_duplicates<'a>(facts: &mut Facts<'a>, loss_evidence: LossEvidence) -> Result<(), AllocError>
+fn put_duplicates_counted_and_needed<'a>(
+    facts: &mut Facts<'a>,
+    loss_evidence: LossEvidence,
+) -> Result<(), AllocError>
     ensures adds { OnOk result (AddsFacts [] facts.old.items facts.new.items) }
     ensures numbers { OnOk result (AddsNumbers ((codes "duplicates", Some loss_evidence.dup_acks) ∷ (codes "duplicates_needed", Some loss_evidence.needed) ∷ []) facts.old.items facts.new.items) }
 {
@@ -408,7 +413,10 @@ fn put_time_backwards<'a>(
 }
 
 /// A moment, or nothing in these words.
-pub fn moment_or_nothing<'a>(time: Option<u64>, nothing: &'static str) -> FactValue<'a> {
+pub fn fact_value_of_moment_or_nothing<'a>(
+    time: Option<u64>,
+    nothing: &'static str,
+) -> FactValue<'a> {
     match time {
         Some(time) => Moment(time),
         None => Nothing(nothing),

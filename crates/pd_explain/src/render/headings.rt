@@ -1,10 +1,8 @@
 //! The result of a row, in words.
 ghost use Rattle.std.specs.Prelude.{◌≡◌, IfOk};
-ghost use Rattle.pd_explain.specs.Headings.{verdict_name, verdict_name_with_kind, verdict_words, kind_words, unexpected_count, unexpected_words, explanation_words};
+ghost use Rattle.pd_explain.specs.Headings.{verdict_name, verdict_name_with_kind, verdict_words, kind_words, unexpected_count, words_after_unexpected_count, explanation_words};
 
-use crate::causes::{Cause, Failed};
-use crate::explain_verdict::Explanation;
-use crate::leftovers::Leftovers;
+use pd_cause::{Cause, Explanation, Failed, Leftovers};
 use pd_match::Kind;
 use pd_run::Verdict;
 use std::alloc::{AllocError, Global};
@@ -70,7 +68,7 @@ fn kind_words(kind: Kind) -> &'static str
 ///
 /// # Errors
 /// `AllocError` where a growth is refused.
-pub fn verdict_or_unexpected_packets_words(
+pub fn verdict_or_packets_before_awaited_words(
     alloc: Global,
     explanation: &Explanation,
 ) -> Result<Vec<u8>, AllocError>
@@ -83,14 +81,14 @@ pub fn verdict_or_unexpected_packets_words(
         return Ok(words);
     }
     words.extend_from_slice(count.to_string(alloc)?.as_bytes())?;
-    words.extend_from_slice(unexpected_words(count).as_bytes())?;
+    words.extend_from_slice(words_after_unexpected_count(count).as_bytes())?;
     words.extend_from_slice(b" asked for by no line")?;
     Ok(words)
 }
 
 /// The words for packets that no line asks for, after their count.
-fn unexpected_words(count: usize) -> &'static str
-    ensures { result.now ≡ unexpected_words count }
+fn words_after_unexpected_count(count: usize) -> &'static str
+    ensures { result.now ≡ words_after_unexpected_count count }
 {
     if count == 1 {
         " packet before it is"

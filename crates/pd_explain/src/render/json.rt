@@ -1,16 +1,16 @@
 //! The block of an explanation as a JSON object.
-use crate::causes::{Cause, Failed, SenderSnapshot, Unmatched, span_text};
-use crate::dropped::DroppedSegment;
-use crate::escape::escaped;
-use crate::explain_verdict::Explanation;
-use crate::leftovers::Leftovers;
-use crate::origins::Origin;
-use crate::refusals::Refusal;
+use super::send_rules::{send_rule_name, send_rule_words};
 use crate::render::dropped_text::{failed_check_key, failed_check_words};
 use crate::render::facts::{Fact, FactValue, facts_of_cause, named_fact};
-use crate::render::headings::{leftovers_words, verdict_name, verdict_or_unexpected_packets_words};
-use crate::render::sender_facts::{facts_of_sender, state_name};
-use crate::rule_violation::RuleViolation;
+use crate::render::headings::{
+    leftovers_words, verdict_name, verdict_or_packets_before_awaited_words,
+};
+use crate::render::sender_facts::{facts_of_sender_without_state_name, state_name};
+use pd_cause::{
+    Cause, DroppedSegment, Explanation, Failed, Leftovers, Origin, SenderSnapshot, Trigger,
+    Unmatched, span_text,
+};
+use pd_refusal::{Refusal, RuleViolation, escaped};
 use pd_run::Verdict;
 use pd_text::Name;
 use serde_json::{Map, Value, put};
@@ -116,7 +116,7 @@ fn put_heading(
     put_words_as_what_member(
         alloc,
         object,
-        &verdict_or_unexpected_packets_words(alloc, explanation)?,
+        &verdict_or_packets_before_awaited_words(alloc, explanation)?,
     )?;
     match verdict {
         Verdict::Fail(_, kind) => put_facts(
@@ -243,12 +243,19 @@ fn string_value(alloc: Global, text: &[u8]) -> Result<Value, AllocError> {
 
 /// The origin of a packet, as an object.
 fn origin_as_json_object(alloc: Global, origin: Origin) -> Result<Value, AllocError> {
-    let fact = match origin {
-        Origin::Line(line) => named_fact("", "line", FactValue::Number(line as u64)),
-        Origin::Timer(moment) => named_fact("", "timer_us", FactValue::Moment(moment)),
+    let trigger = match origin.trigger {
+        Trigger::Line(line) => named_fact("", "line", FactValue::Number(line as u64)),
+        Trigger::Timer => named_fact("", "timer_us", FactValue::Moment(origin.at)),
     };
+    let rule = FactValue::Words(send_rule_name(origin.rule));
+    let words = FactValue::Words(send_rule_words(origin.rule));
+    let facts = [
+        trigger,
+        named_fact("", "rule", rule),
+        named_fact("", "rule_words", words),
+    ];
     let mut object = Map::new(alloc);
-    put_facts(alloc, &mut object, &[fact])?;
+    put_facts(alloc, &mut object, &facts)?;
     Ok(Value::Object(object))
 }
 
@@ -296,7 +303,11 @@ fn sender_value(alloc: Global, sender: &SenderSnapshot) -> Result<Value, AllocEr
     let mut state = Map::new(alloc);
     let name = FactValue::Words(state_name(sender.state));
     put_facts(alloc, &mut state, &[named_fact("", "name", name)])?;
-    put_facts(alloc, &mut state, &facts_of_sender(alloc, sender)?)?;
+    put_facts(
+        alloc,
+        &mut state,
+        &facts_of_sender_without_state_name(alloc, sender)?,
+    )?;
     Ok(Value::Object(state))
 }
 
@@ -324,13 +335,13 @@ fn put_violation(
             escaped_list_value(alloc, &violation.alternatives)?,
         )?;
     }
-    put_words_if_some(
+    put_named_words_if_some(
         alloc,
         object,
         "found",
         violation.rule.flag_meanings_text_if_flag_rule(),
     )?;
-    put_words_if_some(
+    put_named_words_if_some(
         alloc,
         object,
         "mend",
@@ -339,7 +350,7 @@ fn put_violation(
 }
 
 /// Adds words under a key, where there are any.
-fn put_words_if_some(
+fn put_named_words_if_some(
     alloc: Global,
     object: &mut Members,
     key: &'static str,
@@ -371,7 +382,7 @@ fn put_refusal(alloc: Global, object: &mut Members, refusal: &Refusal) -> Result
             named_fact("", "column", column),
         ],
     )?;
-    put_words_if_some(alloc, object, "found", refusal.foreign_syntax_in_words())?;
+    put_named_words_if_some(alloc, object, "found", refusal.foreign_syntax_in_words())?;
     put(
         object,
         alloc,

@@ -1,15 +1,17 @@
 //! The lines of a block: facts, marked lines and lists, each as it is shown.
 ghost use Rattle.std.specs.Prelude.{◌≡◌, ◌∷◌, [], ◌++◌, true, codes, OnOk};
 ghost use Rattle.std.specs.Fmt.{decimal};
-ghost use Rattle.pd_explain.specs.BlockLines.{sent_by_text};
-ghost use Rattle.pd_explain.specs.Escape.{are_printable};
+ghost use Rattle.pd_explain.specs.BlockLines.{trigger_text, sent_by_text};
+ghost use Rattle.pd_refusal.specs.Escape.{are_printable};
 ghost use Rattle.pd_explain.specs.Inner.{AddsLines, AddsTexts, fact_texts, texts_of_fact, value_text};
 
-use crate::escape::{escaped, truncated, truncated_around_mark_and_new_column};
-use crate::laws::law_escaped_is_printable;
-use crate::origins::Origin;
+use super::send_rules::send_rule_words;
 use crate::render::facts::{Fact, FactValue};
+use pd_cause::{Origin, Trigger};
 use pd_print::render_seconds_with_six_decimals;
+use pd_refusal::{
+    escaped, law_escaped_is_printable, truncated, truncated_around_mark_and_new_column,
+};
 use std::alloc::{AllocError, Global};
 
 pub fn put_words(out: &mut Vec<u8>, words: &str) -> Result<(), AllocError>
@@ -112,7 +114,7 @@ pub fn put_value(alloc: Global, out: &mut Vec<u8>, value: FactValue<'_>) -> Resu
         ),
         FactValue::Packet(octets, Some(origin)) => {
             out.extend_from_slice(octets)?;
-            put_sent_by_line_or_timer(alloc, out, origin)
+            put_sent_by_trigger_and_rule(alloc, out, origin)
         }
         FactValue::Words(words) | FactValue::Nothing(words) => put_words(out, words),
         FactValue::Moment(moment) => out.extend_from_slice(&render_seconds_with_six_decimals(
@@ -122,18 +124,32 @@ pub fn put_value(alloc: Global, out: &mut Vec<u8>, value: FactValue<'_>) -> Resu
     }
 }
 
-/// Adds to a packet, which ends in a comment, what let it go.
-#[tactic(auto, using(crate::proofs::BlockLemmas::sent_by_line))]
-fn put_sent_by_line_or_timer(
+/// Adds to a packet, which ends in a comment, what let it go, and by which rule.
+#[tactic(auto, using(crate::proofs::BlockLemmas::sent_by_rule))]
+fn put_sent_by_trigger_and_rule(
     alloc: Global,
     out: &mut Vec<u8>,
     origin: Origin,
 ) -> Result<(), AllocError>
     ensures { OnOk result (out.new.items ≡ out.old.items ++ sent_by_text origin) }
 {
-    match origin {
-        Origin::Timer(_) => put_words(out, ", sent by the timer"),
-        Origin::Line(line) => {
+    put_sent_by_line_or_timer(alloc, out, origin.trigger)?;
+    put_words(out, ": ")?;
+    put_words(out, send_rule_words(origin.rule))
+}
+
+/// Adds the same without its rule.
+#[tactic(auto, using(crate::proofs::BlockLemmas::sent_by_line))]
+fn put_sent_by_line_or_timer(
+    alloc: Global,
+    out: &mut Vec<u8>,
+    trigger: Trigger,
+) -> Result<(), AllocError>
+    ensures { OnOk result (out.new.items ≡ out.old.items ++ trigger_text trigger) }
+{
+    match trigger {
+        Trigger::Timer => put_words(out, ", sent by the timer"),
+        Trigger::Line(line) => {
             put_words(out, ", sent by line ")?;
             put_number(alloc, out, line as u64)
         }
@@ -142,7 +158,7 @@ fn put_sent_by_line_or_timer(
 
 /// Adds words after a label, where there are any.
 #[tactic(auto, using(crate::proofs::BlockLemmas::no_lines))]
-pub fn put_words_if_some(
+pub fn put_named_words_if_some(
     alloc: Global,
     out: &mut Vec<u8>,
     label: &str,

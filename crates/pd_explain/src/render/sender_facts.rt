@@ -2,9 +2,11 @@
 ghost use Rattle.std.specs.Prelude.{◌≡◌};
 ghost use Rattle.pd_explain.specs.States.{state_word};
 
-use crate::causes::SenderSnapshot;
-use crate::render::facts::{FactValue, Facts, moment_or_nothing, named_fact, number_fact};
+use crate::render::facts::{
+    FactValue, Facts, fact_value_of_moment_or_nothing, named_fact, number_fact,
+};
 use FactValue::{Moment, Words};
+use pd_cause::SenderSnapshot;
 use pd_host::{ConnState, ConnectionSnapshot, Recovery, WindowSnapshot};
 use std::alloc::{AllocError, Global};
 
@@ -12,7 +14,7 @@ use std::alloc::{AllocError, Global};
 ///
 /// # Errors
 /// `AllocError` where a growth is refused.
-pub fn facts_of_sender<'a>(
+pub fn facts_of_sender_without_state_name<'a>(
     alloc: Global,
     sender: &SenderSnapshot,
 ) -> Result<Facts<'a>, AllocError> {
@@ -91,7 +93,11 @@ fn put_rto_and_expiry<'a>(
 ) -> Result<(), AllocError> {
     facts.extend_from_slice(&[
         named_fact("RTO", "rto_us", Moment(connection_snapshot.rto_us)),
-        named_fact("expiry", "expiry_us", moment_or_nothing(expiry, "none")),
+        named_fact(
+            "expiry",
+            "expiry_us",
+            fact_value_of_moment_or_nothing(expiry, "none"),
+        ),
     ])
 }
 

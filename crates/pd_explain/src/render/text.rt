@@ -1,29 +1,25 @@
 //! The block of an explanation as lines.
 ghost use Rattle.std.specs.Prelude.{◌≡◌, true, IfOk, OnOk};
-ghost use Rattle.pd_explain.specs.Escape.{are_printable};
+ghost use Rattle.pd_refusal.specs.Escape.{are_printable};
 ghost use Rattle.pd_explain.specs.Headings.{IsPassHeading, explanation_words, heading, verdict_name_with_kind};
 ghost use Rattle.pd_explain.specs.BlockLines.{AreIndented, IsBlock, IsExplanationText, IsLeftoversText, ReportsTexts, packet_texts};
 ghost use Rattle.pd_explain.specs.Inner.{AddsLines, AddsReport};
 
-use crate::causes::{Cause, Failed, Failure, SenderSnapshot, Unmatched, WrongPacket};
-use crate::dropped::DroppedSegment;
-use crate::escape::escaped;
-use crate::explain_verdict::Explanation;
-use crate::laws::law_escaped_is_printable;
-use crate::leftovers::Leftovers;
-use crate::origins::Origin;
-use crate::refusals::Refusal;
 use crate::render::dropped_text::dropped_text;
 use crate::render::facts::{Fact, FactValue, facts_of_cause};
 use crate::render::headings::{
-    leftovers_words, verdict_name_with_kind, verdict_or_unexpected_packets_words,
+    leftovers_words, verdict_name_with_kind, verdict_or_packets_before_awaited_words,
 };
 use crate::render::lines::{
-    put_fact, put_facts, put_labeled_list, put_line_with_mark, put_number,
-    put_truncated_report_line, put_value, put_whole_report_line, put_words, put_words_if_some,
+    put_fact, put_facts, put_labeled_list, put_line_with_mark, put_named_words_if_some, put_number,
+    put_truncated_report_line, put_value, put_whole_report_line, put_words,
 };
-use crate::render::sender_facts::{facts_of_sender, state_name};
-use crate::rule_violation::RuleViolation;
+use crate::render::sender_facts::{facts_of_sender_without_state_name, state_name};
+use pd_cause::{
+    Cause, DroppedSegment, Explanation, Failed, Failure, Leftovers, Origin, SenderSnapshot,
+    Unmatched, WrongPacket,
+};
+use pd_refusal::{Refusal, RuleViolation, escaped, law_escaped_is_printable};
 use pd_text::Name;
 use std::alloc::{AllocError, Global};
 
@@ -105,7 +101,7 @@ fn explanation_heading(
     ensures heading { IfOk result (λ line. line.items ≡ heading name.now explanation.now.line (verdict_name_with_kind explanation.now.verdict) (explanation_words explanation.now)) }
 {
     let verdict = verdict_name_with_kind(alloc, explanation.verdict)?;
-    let words = verdict_or_unexpected_packets_words(alloc, explanation)?;
+    let words = verdict_or_packets_before_awaited_words(alloc, explanation)?;
     heading(alloc, name, explanation.line, &verdict, &words)
 }
 
@@ -150,7 +146,7 @@ fn heading(
 fn put_cause(alloc: Global, out: &mut Vec<u8>, cause: &Cause) -> Result<(), AllocError>
     ensures { OnOk result (AddsReport (packet_texts cause.now) out.old.items out.new.items) }
 {
-    put_insert_suggestions(alloc, out, cause)?;
+    put_insertions_if_wrong_packet(alloc, out, cause)?;
     put_facts_of_cause(alloc, out, cause)?;
     put_rest_of_cause(alloc, out, cause)
 }
@@ -203,7 +199,11 @@ fn put_dropped_segments(
 
 /// Adds the packets that no line asks for, as lines to insert.
 #[tactic(auto, using(crate::proofs::BlockLemmas::no_lines))]
-fn put_insert_suggestions(alloc: Global, out: &mut Vec<u8>, cause: &Cause) -> Result<(), AllocError>
+fn put_insertions_if_wrong_packet(
+    alloc: Global,
+    out: &mut Vec<u8>,
+    cause: &Cause,
+) -> Result<(), AllocError>
     ensures { OnOk result (AddsLines out.old.items out.new.items) }
 {
     match cause {
@@ -213,14 +213,14 @@ fn put_insert_suggestions(alloc: Global, out: &mut Vec<u8>, cause: &Cause) -> Re
                 unmatched,
                 ..
             },
-        ) => put_mend_by_inserting_lines(alloc, out, packets, unmatched),
+        ) => put_insertions_of_unexpected_packets(alloc, out, packets, unmatched),
         _ => Ok(()),
     }
 }
 
 /// The same of a packet that differs: it is the first of them, and other unmatched ones follow it.
 #[tactic(auto, using(crate::proofs::BlockLemmas::no_lines, crate::proofs::BlockLemmas::then_lines))]
-fn put_mend_by_inserting_lines(
+fn put_insertions_of_unexpected_packets(
     alloc: Global,
     out: &mut Vec<u8>,
     packets: &WrongPacket,
@@ -315,7 +315,7 @@ fn put_sender_state_line(
 ///
 /// # Errors
 /// `AllocError` where a growth is refused.
-pub fn write_sender(alloc: Global, sender: &SenderSnapshot) -> Result<Vec<u8>, AllocError> {
+pub fn sender_state_text(alloc: Global, sender: &SenderSnapshot) -> Result<Vec<u8>, AllocError> {
     let mut out = Vec::new(alloc);
     put_sender_state_and_facts(alloc, &mut out, sender)?;
     Ok(out)
@@ -327,7 +327,7 @@ fn put_sender_state_and_facts(
     sender: &SenderSnapshot,
 ) -> Result<(), AllocError> {
     put_words(out, state_name(sender.state))?;
-    for fact in &facts_of_sender(alloc, sender)? {
+    for fact in &facts_of_sender_without_state_name(alloc, sender)? {
         put_inline_fact(alloc, out, fact)?;
     }
     Ok(())
@@ -350,14 +350,14 @@ fn put_violation(
     ensures { OnOk result (AddsLines out.old.items out.new.items) }
 {
     put_line_with_mark(alloc, out, &violation.part.text, violation.part.column)?;
-    put_words_if_some(
+    put_named_words_if_some(
         alloc,
         out,
         "found",
         violation.rule.flag_meanings_text_if_flag_rule(),
     )?;
     put_alternatives(alloc, out, &violation.alternatives)?;
-    put_words_if_some(
+    put_named_words_if_some(
         alloc,
         out,
         "mend",
@@ -389,7 +389,7 @@ fn put_refusal(alloc: Global, out: &mut Vec<u8>, refusal: &Refusal) -> Result<()
         Some(mark) => put_line_with_mark(alloc, out, &refusal.text, mark)?,
         None => put_refused_end_of_text(alloc, out, &refusal.text)?,
     }
-    put_words_if_some(alloc, out, "found", refusal.foreign_syntax_in_words())?;
+    put_named_words_if_some(alloc, out, "found", refusal.foreign_syntax_in_words())?;
     put_labeled_list(alloc, out, "expected:", &refusal.expected)
 }
 

@@ -1,9 +1,9 @@
-//! The changes of a connection by an acceptable ACK.
+//! The changes of a connection by an acceptable ACK: its number, SACK blocks, RTT and timer, window, congestion control.
 ghost use Rattle.std.specs.Prelude.{◌≡◌, ◌+◌, ◌-◌, ◌≤◌, ◌<◌, ◌^◌, ◌&&◌, nat_lt, nat_le, false, Some, IfOk, OnOk, IfSome};
 ghost use Rattle.pd_board.specs.Retransmit.{run_at};
 ghost use Rattle.pd_board.specs.Loss.{sacked_octets, undelivered_octets, lost_edge};
 ghost use Rattle.pd_recover.specs.NextSeg.{IsSendable, segment_of};
-ghost use Rattle.pd_host.specs.AckEffects.{with_block_marked, with_blocks_marked, blocks_in, blocks_of, with_blocks, blocks_marked, with_timing, with_new_window, sack_news_of, with_prr_cwnd_on, cwnd_after, with_ack, ack_of_segment, congestion_updated, taking, next_fill, sent_as, fill_noted_by, fill_noted_on, octets_of, pipe_of, entered_on};
+ghost use Rattle.pd_host.specs.AckEffects.{with_block_marked, with_blocks_marked, blocks_in, blocks_of, with_blocks, blocks_marked, with_timing, with_new_window, sack_news_of, with_prr_cwnd_on, cwnd_after, with_ack, ack_of_segment, congestion_updated, taking, next_fill, next_seg_rule, fill_rule, sent_as, fill_noted_by, fill_noted_on, octets_of, pipe_of, entered_on};
 ghost use Rattle.pd_host.specs.Handshake.{before_eol};
 ghost use Rattle.pd_host.specs.Steps.{FollowsQueued};
 
@@ -11,7 +11,7 @@ use super::Connection;
 use crate::established::Established;
 use pd_board::Board;
 use pd_recover::{Ack, AckAction, Cong, Delivery, NextSegment, SackNews};
-use pd_seg::{SegOption, Segment, Span};
+use pd_seg::{SegOption, Segment, SendRule, Span};
 use std::alloc::AllocError;
 
 /// Which segments are sent while the congestion window has room for a full one beside what is on the way.
@@ -21,6 +21,30 @@ pub enum WindowFill {
     NextSeg,
     /// By limited transmit: new octets alone (RFC 6675, section 5, step 3; RFC 3042).
     NewData,
+}
+
+impl WindowFill {
+    /// The rule by which such a segment leaves.
+    pub fn rule(self, sent: &NextSegment) -> SendRule
+        ensures { result ≡ fill_rule self sent.now }
+    {
+        match self {
+            WindowFill::NextSeg => next_seg_rule(sent),
+            WindowFill::NewData => SendRule::SackLimitedTransmit,
+        }
+    }
+}
+
+/// The rule of NextSeg that gave a segment.
+fn next_seg_rule(sent: &NextSegment) -> SendRule
+    ensures { result ≡ next_seg_rule sent.now }
+{
+    match sent {
+        NextSegment::Lost(_) => SendRule::NextSegLost,
+        NextSegment::New(_) => SendRule::NextSegNew,
+        NextSegment::Hole(_) => SendRule::NextSegHole,
+        NextSegment::Rescue(_) => SendRule::NextSegRescue,
+    }
 }
 
 /// The scoreboard's counts before an ACK, by which PRR counts the octets that the ACK delivers (RFC 9937, section 6).
@@ -46,7 +70,7 @@ impl BoardBeforeAck {
     }
 
     /// The octets that the ACK delivers, by the scoreboard after it and how many octets it acknowledges.
-    fn prr_delivery_by_board_after_ack(self, acked: u32, board: &Board) -> Delivery
+    fn prr_delivered_recover_fs_and_safe_ack(self, acked: u32, board: &Board) -> Delivery
         requires { acked < 2 ^ 31 }
         ensures { result ≡ record { delivered_data = acked + sacked_octets board.now - self.sacked; recover_fs = self.undelivered_octets; safe_ack = nat_lt 0 acked && nat_le (lost_edge board.now) self.lost_edge } }
     {
@@ -60,7 +84,7 @@ impl BoardBeforeAck {
 
 /// Marks one block more, if all its octets were sent. The answer says whether a block reported a new octet: `so_far` says it
 /// of those before.
-fn mark_block_if_sent_reporting_any_new(
+fn mark_block_if_sent_updating_any_new_so_far(
     board: &mut Board,
     block: Span,
     so_far: bool,
@@ -75,7 +99,7 @@ fn mark_block_if_sent_reporting_any_new(
     Ok(so_far)
 }
 
-fn mark_blocks_if_sent_reporting_any_new(
+fn mark_blocks_if_sent_updating_any_new_so_far(
     board: &mut Board,
     blocks: &[Span],
     so_far: bool,
@@ -85,12 +109,12 @@ fn mark_blocks_if_sent_reporting_any_new(
 {
     let mut fresh = so_far;
     for block in blocks {
-        fresh = mark_block_if_sent_reporting_any_new(board, *block, fresh)?;
+        fresh = mark_block_if_sent_updating_any_new_so_far(board, *block, fresh)?;
     }
     Ok(fresh)
 }
 
-fn mark_single_option_reporting_any_new(
+fn mark_sack_option_updating_any_new_so_far(
     board: &mut Board,
     option: &SegOption,
     so_far: bool,
@@ -99,7 +123,7 @@ fn mark_single_option_reporting_any_new(
     ensures una { board.new.una ≡ board.old.una }
 {
     match option {
-        SegOption::Sack(blocks) => mark_blocks_if_sent_reporting_any_new(
+        SegOption::Sack(blocks) => mark_blocks_if_sent_updating_any_new_so_far(
             board,
             blocks.as_slice(),
             so_far,
@@ -121,7 +145,7 @@ fn mark_blocks_before_eol_reporting_any_new(
         if let SegOption::Eol = option {
             return Ok(fresh);
         }
-        fresh = mark_single_option_reporting_any_new(board, option, fresh)?;
+        fresh = mark_sack_option_updating_any_new_so_far(board, option, fresh)?;
     }
     Ok(fresh)
 }
@@ -170,7 +194,7 @@ impl Connection {
         let acked = segment.ack - self.board.una();
         let before = BoardBeforeAck::of(&self.board);
         let fresh = self.take_ack(segment, &mut established, now)?;
-        let delivery = before.prr_delivery_by_board_after_ack(acked, &self.board);
+        let delivery = before.prr_delivered_recover_fs_and_safe_ack(acked, &self.board);
         Ok(self.update_congestion_and_choose_ack_action(
             segment,
             acked,
@@ -329,7 +353,7 @@ impl Connection {
     }
 
     /// Recovery has begun with this segment: HighRxt and RescueRxt, and by PRR what was sent.
-    pub fn set_high_and_rescue_rxt_to_segment_end(&mut self, segment: Span)
+    pub fn set_high_and_rescue_rxt_and_count_prr_out(&mut self, segment: Span)
         ensures { self.new ≡ entered_on segment self.old self.old.established }
     {
         let Some(mut established) = self.established else {
@@ -337,7 +361,7 @@ impl Connection {
         };
         established
             .congestion
-            .set_high_and_rescue_rxt_to_segment_end(segment);
+            .set_high_and_rescue_rxt_and_count_prr_out(segment);
         self.established = Some(established);
     }
 
@@ -368,7 +392,7 @@ impl Connection {
     ///
     /// # Errors
     /// `AllocError` for new octets where the scoreboard has found no memory before.
-    pub fn note_fill_sent_in_board_and_congestion(
+    pub fn note_fill_sent_in_board_timer_and_congestion(
         &mut self,
         filling: WindowFill,
         sent: &NextSegment,
@@ -379,13 +403,13 @@ impl Connection {
         ensures { OnOk result (self.new ≡ fill_noted_on filling sent.now (sent_as now sent.now self.old) self.old.established) }
     {
         self.board.law_invariant();
-        self.start_timer_and_advance_next_if_new(sent, now)?;
+        self.start_rtt_and_timer_advancing_next_if_new(sent, now)?;
         self.note_sent_segment_in_congestion(filling, sent);
         Ok(())
     }
 
     /// New octets move the sending place; octets sent again leave it.
-    fn start_timer_and_advance_next_if_new(
+    fn start_rtt_and_timer_advancing_next_if_new(
         &mut self,
         sent: &NextSegment,
         now: u64,
@@ -399,7 +423,7 @@ impl Connection {
             NextSegment::Lost(segment)
             | NextSegment::Hole(segment)
             | NextSegment::Rescue(segment) => {
-                self.start_rtt_and_timer(segment, now);
+                self.update_rtt_segment_timer_and_last_sent(segment, now);
                 Ok(())
             }
         }

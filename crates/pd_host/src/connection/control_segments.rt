@@ -100,7 +100,7 @@ impl Connection {
     }
 
     /// An ACK of what was received.
-    pub fn pure_ack_segment(&self, alloc: Global) -> Segment
+    pub fn pure_ack_segment_at_top(&self, alloc: Global) -> Segment
         ensures { result ≡ ack_of self.now }
     {
         Segment {

@@ -1,9 +1,9 @@
 //! The effect of an expiry of its timer on a connection.
 ghost use Rattle.std.specs.Prelude.{◌≡◌, ◌<◌, ◌≤◌, ◌^◌, IfOk, IfSome};
-ghost use Rattle.pd_host.specs.Expiries.{due_by, segment_again, connection_expired};
+ghost use Rattle.pd_host.specs.Expiries.{due_by, segment_again, expiry_rule, connection_expired};
 
 use super::Connection;
-use pd_seg::Segment;
+use pd_seg::{Segment, SendRule};
 use std::alloc::{AllocError, Global};
 
 impl Connection {
@@ -22,6 +22,16 @@ impl Connection {
         match self.deadline() {
             Some(at) if at <= until => Some(at),
             _ => None,
+        }
+    }
+
+    /// The rule by which an expiry sends what it sends.
+    pub fn expiry_rule(&self) -> SendRule
+        ensures { result ≡ expiry_rule self.now.established }
+    {
+        match self.established {
+            None => SendRule::SynAckAgain,
+            Some(_) => SendRule::Expiry,
         }
     }
 

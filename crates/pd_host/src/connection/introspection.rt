@@ -1,7 +1,7 @@
-//! The view of those who observe a connection: its numbers, and why it sends nothing by itself.
+//! A connection for its observers: its numbers, and why it sends nothing by itself, `Open` where a segment could leave.
 ghost use Rattle.std.specs.Prelude.{◌≡◌, ◌+◌, nat_le, IfOk};
 ghost use Rattle.pd_host.specs.ConnectionSnapshot.{recovery_of, reduction_of, windows_of, connection_snapshot_of};
-ghost use Rattle.pd_host.specs.SendBlockers.{last_octet_needed_in_windows, is_worth_sending, new_segment_send_blocker, ordinary_send_blocker, blocker_in_recovery, established_send_blocker, blocker_of};
+ghost use Rattle.pd_host.specs.SendBlockers.{last_octet_needed_in_windows, may_leave_by_sws_ignoring_nagle, new_segment_send_blocker, ordinary_send_blocker, blocker_in_recovery, established_send_blocker, blocker_of};
 ghost use Rattle.pd_host.specs.Sending.{with_next_past_sacked};
 
 use super::Connection;
@@ -40,7 +40,7 @@ pub enum SendBlocker {
 }
 
 /// The state of PRR, where recovery goes by it.
-fn prr_if_used(congestion: &Cong) -> Option<PrrState>
+fn prr_state_if_recovery_algorithm_is_prr(congestion: &Cong) -> Option<PrrState>
     ensures { result ≡ reduction_of congestion.now }
 {
     if congestion.uses_prr() {
@@ -78,7 +78,7 @@ impl Connection {
                 rwnd: established.rwnd,
                 dup_acks: established.congestion.dup_acks(),
                 recovery: self.recovery_kind_with_pipe(established),
-                prr: prr_if_used(&established.congestion),
+                prr: prr_state_if_recovery_algorithm_is_prr(&established.congestion),
             }),
         }
     }
@@ -208,7 +208,7 @@ impl Connection {
     fn new_segment_send_blocker(&self, established: &Established) -> SendBlocker
         ensures { result ≡ new_segment_send_blocker self.now established.now }
     {
-        if !self.is_worth_sending(established) {
+        if !self.may_leave_by_sws_ignoring_nagle(established) {
             SendBlocker::PartOfSegment
         } else if self.may_leave_by_sws_and_nagle(established) {
             SendBlocker::Open

@@ -1,7 +1,7 @@
 //! Evidence that may lead to sending next: duplicates, and the measurements of the timer.
 ghost use Rattle.std.specs.Prelude.{◌≡◌};
 ghost use Rattle.pd_board.specs.Runs.{AreRuns};
-ghost use Rattle.pd_host.specs.LossEvidence.{sack_evidence_of, loss_evidence_of, established_next_dup_ack_effect, dup_ack_status_of, timeout_of};
+ghost use Rattle.pd_host.specs.LossEvidence.{sack_evidence_of, loss_evidence_of, established_loss_evidence_or_barring_point, dup_ack_status_of, timeout_of};
 
 use super::Connection;
 use crate::established::Established;
@@ -45,17 +45,20 @@ pub struct SackEvidence {
 
 impl Connection {
     /// The effect of a duplicate; nothing where no octet is outstanding, recovery goes on, or none is looked at.
-    pub fn next_dup_ack_effect_if_any(&self) -> Option<DupAckEffect>
+    pub fn loss_evidence_or_barring_recovery_point(&self) -> Option<DupAckEffect>
         ensures { result ≡ dup_ack_status_of self.now }
     {
         match &self.established {
             None => None,
-            Some(established) => self.established_next_dup_ack_effect(established),
+            Some(established) => self.established_loss_evidence_or_barring_point(established),
         }
     }
 
-    fn established_next_dup_ack_effect(&self, established: &Established) -> Option<DupAckEffect>
-        ensures { result ≡ established_next_dup_ack_effect self.now established.now }
+    fn established_loss_evidence_or_barring_point(
+        &self,
+        established: &Established,
+    ) -> Option<DupAckEffect>
+        ensures { result ≡ established_loss_evidence_or_barring_point self.now established.now }
     {
         let congestion = &established.congestion;
         if self.is_reset || congestion.is_recovering() || self.board.una() == self.board.top() {
@@ -95,7 +98,7 @@ impl Connection {
     }
 
     /// How the timeout comes from what was measured; nothing before any measurement.
-    pub fn rto_derivation(&self) -> Option<Timeout>
+    pub fn measured_rto_derivation_before_backoff(&self) -> Option<Timeout>
         ensures { result ≡ timeout_of self.now }
     {
         match &self.established {

@@ -2,14 +2,14 @@
 ghost use Rattle.std.specs.Prelude.{◌≡◌, ◌<◌, ◌^◌, Some, IfSome, IfOk};
 ghost use Rattle.pd_host.specs.Connection.{data_end};
 ghost use Rattle.pd_host.specs.Packets.{covers_fin, has_last_data_octet, data_of};
-ghost use Rattle.pd_host.specs.SendBlockers.{is_worth_sending};
-ghost use Rattle.pd_host.specs.Sending.{una_plus_smaller_window, usable_window, unsent_octets, unsent_octets_in_usable_window, unsent_segment, can_send_full_segment, is_unsent_within_usable_window, can_send_half_max_window, may_leave_by_sws_and_nagle, is_nagle_delayed, next_new_segment, retransmit_segment_at_next_if_in_windows, found, is_idle, restarted_if_idle, with_next_past_sacked, sent_on};
+ghost use Rattle.pd_host.specs.SendBlockers.{may_leave_by_sws_ignoring_nagle};
+ghost use Rattle.pd_host.specs.Sending.{una_plus_smaller_window, usable_window, unsent_octets, unsent_octets_in_usable_window, unsent_segment, can_send_full_segment, is_unsent_within_usable_window, can_send_half_max_window, may_leave_by_sws_and_nagle, is_partial_held_by_nagle_unless_fin, next_new_segment, retransmit_segment_at_next_if_in_windows, found, ordinary_rule, is_all_acked_and_idle_over_rto, restarted_if_idle, with_next_past_sacked, sent_on};
 ghost use Rattle.pd_host.specs.Steps.{IsQueued};
 
 use super::Connection;
 use super::control_segments::{MAX_WINDOW_FIELD, NO_FLAGS};
 use crate::established::Established;
-use pd_seg::{Flags, SegOptions, Segment, Span};
+use pd_seg::{Flags, SegOptions, Segment, SendRule, Span};
 use std::alloc::{AllocError, Global};
 
 impl Connection {
@@ -96,8 +96,8 @@ impl Connection {
     }
 
     /// Whether Nagle's algorithm holds a segment that isn't full.
-    fn is_nagle_delayed(&self, established: &Established) -> bool
-        ensures { result ≡ is_nagle_delayed self.now established.now }
+    fn is_partial_held_by_nagle_unless_fin(&self, established: &Established) -> bool
+        ensures { result ≡ is_partial_held_by_nagle_unless_fin self.now established.now }
     {
         established.nagle
             && self.board.una() < self.board.top()
@@ -133,12 +133,12 @@ impl Connection {
         self.can_send_full_segment(established)
             || ((self.is_unsent_within_usable_window(established)
                 || self.can_send_half_max_window(established))
-                && !self.is_nagle_delayed(established))
+                && !self.is_partial_held_by_nagle_unless_fin(established))
     }
 
     /// Whether what could leave is a segment worth sending, Nagle's algorithm apart.
-    pub fn is_worth_sending(&self, established: &Established) -> bool
-        ensures { result ≡ is_worth_sending self.now established.now }
+    pub fn may_leave_by_sws_ignoring_nagle(&self, established: &Established) -> bool
+        ensures { result ≡ may_leave_by_sws_ignoring_nagle self.now established.now }
     {
         self.can_send_full_segment(established)
             || self.is_unsent_within_usable_window(established)
@@ -185,9 +185,20 @@ impl Connection {
         }
     }
 
+    /// The rule by which that segment leaves: octets that were sent before an expiry again, or new ones.
+    pub fn ordinary_rule(&self) -> SendRule
+        ensures { result ≡ ordinary_rule self.now }
+    {
+        if self.board.next() < self.board.top() {
+            SendRule::AfterExpiry
+        } else {
+            SendRule::NewData
+        }
+    }
+
     /// Whether no octets were sent for longer than RTO and none are outstanding.
-    fn is_idle(&self, now: u64) -> bool
-        ensures { result ≡ is_idle now self.now }
+    fn is_all_acked_and_idle_over_rto(&self, now: u64) -> bool
+        ensures { result ≡ is_all_acked_and_idle_over_rto now self.now }
     {
         self.board.una() == self.board.top()
             && now.saturating_sub(self.last_sent) > self.timer.rto()
@@ -195,10 +206,10 @@ impl Connection {
 
     /// Sending begins at a moment: after an idle time the congestion window restarts, where the setting was on (RFC 5681,
     /// section 4.1).
-    pub fn restart_cwnd_if_idle(&mut self, now: u64)
+    pub fn restart_cwnd_if_idle_and_setting_on(&mut self, now: u64)
         ensures { self.new ≡ restarted_if_idle now self.old }
     {
-        let idle = self.is_idle(now);
+        let idle = self.is_all_acked_and_idle_over_rto(now);
         let smss = self.board.smss();
         if let Some(established) = &mut self.established {
             established.congestion.restart_cwnd_if_idle(smss, idle);
@@ -221,7 +232,7 @@ impl Connection {
         requires queued { IsQueued segment self.old }
         ensures { IfOk result (λ done. self.new ≡ sent_on now segment self.old) }
     {
-        self.start_rtt_and_timer(segment, now);
+        self.update_rtt_segment_timer_and_last_sent(segment, now);
         self.board.sent(segment.end)
     }
 }

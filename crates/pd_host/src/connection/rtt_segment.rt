@@ -1,6 +1,6 @@
 //! The timer of a connection, and the segment whose round trip is measured.
 ghost use Rattle.std.specs.Prelude.{◌≡◌, ◌<◌, ◌^◌};
-ghost use Rattle.pd_host.specs.RttSegment.{overlaps, rtt_segment_after_sending, timing_started, with_sample, with_timer_updated, with_handshake_timer_ended};
+ghost use Rattle.pd_host.specs.RttSegment.{overlaps, rtt_segment_by_karn_after_sending, timing_started, with_sample, with_timer_updated, with_handshake_timer_ended};
 
 use super::Connection;
 use pd_seg::Span;
@@ -21,13 +21,13 @@ fn overlaps(a: Span, b: Span) -> bool
 }
 
 /// The segment that is timed after another one was sent at a moment.
-fn rtt_segment_after_sending(
+fn rtt_segment_by_karn_after_sending(
     now: u64,
     segment: Span,
     top: u32,
     rtt_segment: Option<RttSegment>,
 ) -> Option<RttSegment>
-    ensures { result ≡ rtt_segment_after_sending now segment top rtt_segment }
+    ensures { result ≡ rtt_segment_by_karn_after_sending now segment top rtt_segment }
 {
     match rtt_segment {
         None if top <= segment.start => Some(RttSegment {
@@ -42,11 +42,11 @@ fn rtt_segment_after_sending(
 
 impl Connection {
     /// A segment was sent at a moment.
-    pub fn start_rtt_and_timer(&mut self, segment: Span, now: u64)
+    pub fn update_rtt_segment_timer_and_last_sent(&mut self, segment: Span, now: u64)
         requires early { now < 2 ^ 62 }
         ensures { self.new ≡ timing_started now segment self.old }
     {
-        self.rtt_segment = rtt_segment_after_sending(
+        self.rtt_segment = rtt_segment_by_karn_after_sending(
             now,
             segment,
             self.board.top(),

@@ -1,7 +1,7 @@
 //! The checks of a segment that arrives on a connection.
 ghost use Rattle.std.specs.Prelude.{◌≡◌, ◌≤◌, Some, IfNone};
 ghost use Rattle.pd_host.specs.declared.connection.segment_check.SegmentCheck.TheVariants.{FirstAck};
-ghost use Rattle.pd_host.specs.Arrivals.{is_in_window, is_next_fin, has_in_window_fin_out_of_order, failed_check_if_contents_unsupported, failed_check_if_outside_receive_window, exact_or_challenged_check_if_rst, failed_check_if_ack_flag_missing, first_or_refused_ack_check_in_handshake, failed_check_if_ack_early_or_old, failed_check_of};
+ghost use Rattle.pd_host.specs.Arrivals.{is_in_window, is_first_fin_at_rcv_nxt, has_in_window_fin_out_of_order, not_run_if_data_syn_misplaced_fin_or_closed, failed_check_if_outside_receive_window, exact_or_challenged_check_if_rst, failed_check_if_ack_flag_missing, first_or_refused_ack_check_in_handshake, failed_check_if_ack_above_top_or_below_una, failed_check_of};
 
 use super::Connection;
 use pd_seg::Segment;
@@ -40,16 +40,16 @@ impl Connection {
         ensures sent { IfNone result (segment.now.ack ≤ self.now.board.top) }
         ensures first { result ≡ Some FirstAck → (self.now.board.una ≤ 1) × (1 ≤ self.now.board.top) }
     {
-        self.failed_check_if_contents_unsupported(segment)
+        self.not_run_if_data_syn_misplaced_fin_or_closed(segment)
             .or(self.failed_check_if_outside_receive_window(segment))
             .or(self.exact_or_challenged_check_if_rst(segment))
             .or(failed_check_if_ack_flag_missing(segment))
             .or(self.first_or_refused_ack_check_in_handshake(segment))
-            .or(self.failed_check_if_ack_early_or_old(segment))
+            .or(self.failed_check_if_ack_above_top_or_below_una(segment))
     }
 
-    fn failed_check_if_contents_unsupported(&self, segment: &Segment) -> Option<SegmentCheck>
-        ensures { result ≡ failed_check_if_contents_unsupported self.now segment.now }
+    fn not_run_if_data_syn_misplaced_fin_or_closed(&self, segment: &Segment) -> Option<SegmentCheck>
+        ensures { result ≡ not_run_if_data_syn_misplaced_fin_or_closed self.now segment.now }
     {
         if segment.data_len() > 0
             || segment.flags.syn
@@ -66,12 +66,12 @@ impl Connection {
     fn has_in_window_fin_out_of_order(&self, segment: &Segment) -> bool
         ensures { result ≡ has_in_window_fin_out_of_order self.now segment.now }
     {
-        segment.flags.fin && self.is_in_window(segment) && !self.is_next_fin(segment)
+        segment.flags.fin && self.is_in_window(segment) && !self.is_first_fin_at_rcv_nxt(segment)
     }
 
     /// Whether its FIN is the peer's next octet, and the first one.
-    fn is_next_fin(&self, segment: &Segment) -> bool
-        ensures { result ≡ is_next_fin self.now segment.now }
+    fn is_first_fin_at_rcv_nxt(&self, segment: &Segment) -> bool
+        ensures { result ≡ is_first_fin_at_rcv_nxt self.now segment.now }
     {
         self.peer_fin().is_awaited() && segment.start == self.rcv_nxt()
     }
@@ -120,8 +120,8 @@ impl Connection {
         }
     }
 
-    fn failed_check_if_ack_early_or_old(&self, segment: &Segment) -> Option<SegmentCheck>
-        ensures { result ≡ failed_check_if_ack_early_or_old self.now segment.now }
+    fn failed_check_if_ack_above_top_or_below_una(&self, segment: &Segment) -> Option<SegmentCheck>
+        ensures { result ≡ failed_check_if_ack_above_top_or_below_una self.now segment.now }
     {
         if self.board.top() < segment.ack {
             Some(SegmentCheck::EarlyAck)

@@ -1,22 +1,22 @@
-//! The segments that loss recovery sends, and when.
+//! Sending with SACK: NextSeg (`next_send`, whatever cwnd is); step C and limited transmit if cwnd - pipe holds a segment.
 ghost use Rattle.std.specs.Prelude.{◌≡◌, ◌+◌, ◌≤◌, IfSome};
 ghost use Rattle.std.specs.Bool.{OnTrue};
 ghost use Rattle.pd_board.specs.Board.{IsBoardView};
-ghost use Rattle.pd_recover.specs.NextSeg.{IsSendable, segment_of, first_by_next_seg_rules, next_send, step_c_segment, limited_transmit_segment, new_segment_on_board_within_rwnd, has_room_for_segment, with_sent_noted};
+ghost use Rattle.pd_recover.specs.NextSeg.{IsSendable, segment_of, first_by_next_seg_rules, next_send, step_c_segment, limited_transmit_segment, board_new_segment_at_top_if_whole_in_rwnd, has_room_for_segment, with_sent_noted};
 
 use super::Cong;
-use super::on_ack::new_segment_within_rwnd;
+use super::on_ack::new_segment_at_top_if_whole_in_rwnd;
 use crate::next_segment::NextSegment;
 use pd_board::Board;
 use pd_seg::Span;
 
 /// The new segment at `top`, where data is queued and the peer's window in octets takes it.
-fn new_segment_on_board_within_rwnd(board: &Board, rwnd: u32) -> Option<Span>
-    ensures value { result ≡ new_segment_on_board_within_rwnd rwnd board.now }
+fn board_new_segment_at_top_if_whole_in_rwnd(board: &Board, rwnd: u32) -> Option<Span>
+    ensures value { result ≡ board_new_segment_at_top_if_whole_in_rwnd rwnd board.now }
     ensures sendable { IfSome result (IsSendable board.now) }
     ensures known { IsBoardView board.now }
 {
-    new_segment_within_rwnd(board.smss(), board.una(), board.top(), board.end(), rwnd)
+    new_segment_at_top_if_whole_in_rwnd(board.smss(), board.una(), board.top(), board.end(), rwnd)
 }
 
 impl Cong {
@@ -26,7 +26,7 @@ impl Cong {
         ensures value { result ≡ next_send rwnd board.now self.now }
         ensures sendable { IfSome result (λ sent. IsSendable board.now (segment_of sent)) }
     {
-        let unsent = new_segment_on_board_within_rwnd(board, rwnd);
+        let unsent = board_new_segment_at_top_if_whole_in_rwnd(board, rwnd);
         self.first_by_next_seg_rules(board, unsent)
     }
 
@@ -69,7 +69,7 @@ impl Cong {
         ensures fits { IfSome result (λ _. pipe + board.now.smss ≤ self.now.cwnd) }
     {
         if self.has_room_for_segment(board, pipe) {
-            return new_segment_on_board_within_rwnd(board, rwnd);
+            return board_new_segment_at_top_if_whole_in_rwnd(board, rwnd);
         }
         None
     }

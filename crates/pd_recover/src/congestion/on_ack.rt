@@ -1,7 +1,7 @@
-//! The effect of an ACK on the congestion window and on loss recovery, and the sending that it leads to.
+//! The effect of an ACK on cwnd and loss recovery, and the sending after it: by RFC 6675 or 9937 with SACK, else RFC 5681.
 ghost use Rattle.std.specs.Prelude.{◌≡◌, false, ◌+◌, ◌<◌, ◌≤◌, ◌^◌, IfSome};
 ghost use Rattle.std.specs.Bool.{OnTrue};
-ghost use Rattle.pd_recover.specs.Acks.{IsAck, IsNamed, acked, is_rfc5681_duplicate, grown_by, half_of, dup_ack_counted, recovery_ended, prr_begun, with_delivered, recovery_continued, new_segment_within_rwnd, first_outstanding_segment, acked_with_sack, acked_without_sack, selective_duplicate, plain_duplicate, limited_transmit, new_octets_acked};
+ghost use Rattle.pd_recover.specs.Acks.{IsAck, IsNamed, acked, is_rfc5681_duplicate, grown_by, half_of, dup_ack_counted, recovery_ended, prr_begun, with_delivered, recovery_continued, new_segment_at_top_if_whole_in_rwnd, first_outstanding_segment, acked_with_sack, acked_without_sack, selective_duplicate, plain_duplicate, limited_transmit, new_octets_acked};
 ghost use Rattle.pd_recover.specs.Cong.{cwnd_growth, limit_of, widened};
 ghost use Rattle.pd_recover.specs.Prr.{IsPrrState};
 
@@ -13,10 +13,16 @@ use pd_board::DUP_THRESH;
 use pd_seg::Span;
 
 /// The new segment at `top`, where data is queued and the peer's window takes it.
-pub fn new_segment_within_rwnd(smss: u16, una: u32, top: u32, end: u32, rwnd: u32) -> Option<Span>
+pub fn new_segment_at_top_if_whole_in_rwnd(
+    smss: u16,
+    una: u32,
+    top: u32,
+    end: u32,
+    rwnd: u32,
+) -> Option<Span>
     requires queued { top ≤ end }
     requires small { end < 2 ^ 31 }
-    ensures value { result ≡ new_segment_within_rwnd smss una top end rwnd }
+    ensures value { result ≡ new_segment_at_top_if_whole_in_rwnd smss una top end rwnd }
     ensures within { IfSome result (λ s. (s.start ≡ top) × (s.start < s.end) × (s.end ≤ top + smss) × (s.end ≤ end)) }
 {
     let to = top + u32::from(smss).min(end - top);
@@ -80,11 +86,11 @@ impl Cong {
         ensures named { IsNamed ack result }
     {
         if self.recovering && self.recovery_point <= ack.una {
-            self.end_sack_recovery();
+            self.end_sack_recovery_cwnd_to_ssthresh_if_prr();
             return AckAction::Ordinary;
         }
         if self.recovering {
-            return self.count_prr_delivery_then_step_c(ack);
+            return self.count_prr_delivery_then_step_c_unless_none(ack);
         }
         self.grow_cwnd_by_ack(ack);
         if !sack_news.fresh {
@@ -95,7 +101,7 @@ impl Cong {
     }
 
     /// Recovery with SACK ends.
-    fn end_sack_recovery(&mut self)
+    fn end_sack_recovery_cwnd_to_ssthresh_if_prr(&mut self)
         ensures { self.new ≡ recovery_ended self.old }
     {
         if self.uses_prr() {
@@ -108,7 +114,7 @@ impl Cong {
     }
 
     /// An ACK in recovery with SACK that doesn't end it. By PRR one that delivers nothing changes nothing.
-    fn count_prr_delivery_then_step_c(&mut self, ack: Ack) -> AckAction
+    fn count_prr_delivery_then_step_c_unless_none(&mut self, ack: Ack) -> AckAction
         ensures state { self.new ≡ (recovery_continued ack self.old).0 }
         ensures then { result ≡ (recovery_continued ack self.old).1 }
         ensures named { IsNamed ack result }
@@ -130,7 +136,7 @@ impl Cong {
     }
 
     /// The state of PRR where recovery with SACK begins.
-    fn prr_at_recovery_start(&self, ack: Ack) -> PrrState
+    fn prr_begun_with_entry_ack_counted(&self, ack: Ack) -> PrrState
         ensures value { result ≡ prr_begun ack self.now }
         ensures known { IsPrrState result }
     {
@@ -160,7 +166,7 @@ impl Cong {
             return AckAction::LimitedTransmit;
         }
         let ssthresh_after_loss = self.rfc5681_ssthresh_after_loss(ack);
-        self.prr = self.prr_at_recovery_start(ack);
+        self.prr = self.prr_begun_with_entry_ack_counted(ack);
         self.cwnd = ssthresh_after_loss;
         self.ssthresh = ssthresh_after_loss;
         self.recovering = true;
@@ -182,7 +188,7 @@ impl Cong {
         }
         if ack.is_rfc5681_duplicate() && self.recovery_point <= ack.una {
             self.count_dup_ack();
-            return self.on_duplicate_without_sack(ack);
+            return self.act_on_counted_duplicate_without_sack(ack);
         }
         AckAction::Ordinary
     }
@@ -201,7 +207,7 @@ impl Cong {
     }
 
     /// A duplicate without SACK, which is counted already (RFC 5681, section 3.2, steps 1 to 4).
-    fn on_duplicate_without_sack(&mut self, ack: Ack) -> AckAction
+    fn act_on_counted_duplicate_without_sack(&mut self, ack: Ack) -> AckAction
         requires ack { IsAck ack }
         requires outstanding { ack.una < ack.top }
         ensures state { self.new ≡ (plain_duplicate ack self.old).0 }
@@ -232,8 +238,9 @@ impl Cong {
         if !self.limited_transmit {
             return AckAction::Nothing;
         }
-        let Some(segment) = new_segment_within_rwnd(ack.smss, ack.una, ack.top, ack.end, ack.rwnd)
-        else {
+        let Some(segment) = new_segment_at_top_if_whole_in_rwnd(
+            ack.smss, ack.una, ack.top, ack.end, ack.rwnd,
+        ) else {
             return AckAction::Nothing;
         };
         if segment.end - ack.una > self.cwnd + 2 * u32::from(ack.smss) {

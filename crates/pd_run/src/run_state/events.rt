@@ -1,4 +1,4 @@
-//! One event of a run: what it does, and how it ends.
+//! One event of a run: a step that goes on or stops with a verdict, or a preview of the reason for a stop.
 ghost use Rattle.std.specs.Prelude.{◌≡◌, ◌<◌, ◌^◌, false, None, Some, IfOk, OnErr, slice_get};
 ghost use Rattle.std.specs.List.{list_any};
 ghost use Rattle.pd_host.specs.Expiries.{advanced, deadline_of};
@@ -6,15 +6,17 @@ ghost use Rattle.pd_host.specs.Host.{IsShort};
 ghost use Rattle.pd_host.specs.declared.halts.HostEnd.TheVariants.{OutOfMemory};
 ghost use Rattle.pd_run.specs.Inner.{Ends};
 ghost use Rattle.pd_run.specs.Limits.{is_long, written_times, is_packet_number_over_limit};
-ghost use Rattle.pd_run.specs.Step.{arrives, on_arrival, answers, on_answer, on_expiry, awaited, packet_taken, leaves, perform_event_and_find_stop, stop_reason, Steps};
+ghost use Rattle.pd_run.specs.Step.{arrives, on_arrival, answers, on_answer, on_expiry, awaited, packet_taken, leaves, precheck_then_perform_event_and_find_stop, stop_reason, Steps};
 
 use super::RunState;
 use crate::host_input::{advance_host_and_call, arrive};
-use crate::laws::law_sender_keeps_time_and_bounds_queueing;
+use crate::laws::law_sender_deadline_ahead_and_queue_bounded;
 use crate::prechecks::{Precheck, failed_precheck};
 use crate::stepper::StepEnd;
 use crate::stop_reason::{StopKind, StopReason};
-use crate::times::{base_after_expected_packet, is_not_too_late_within_tolerance, time_range_of};
+use crate::times::{
+    base_from_moment_or_later_of_base_and_sent, is_not_too_late_within_tolerance, time_range_of,
+};
 use pd_match::{Expect, check_call, check_packet};
 use pd_script::{Action, Call, Event, Packet};
 use std::alloc::AllocError;
@@ -35,7 +37,7 @@ impl RunState {
         if let Some(ending) = self.host.end_reason() {
             return Ok(StepEnd::Stop(StopKind::from_host_end(ending)?.verdict(event.line)));
         }
-        match self.perform_event_and_find_stop(event)? {
+        match self.precheck_then_perform_event_and_find_stop(event)? {
             None => Ok(StepEnd::Go),
             Some(stop) => Ok(StepEnd::Stop(stop.verdict(event.line))),
         }
@@ -56,7 +58,7 @@ impl RunState {
         ensures { IfOk result (λ reason. reason ≡ stop_reason self.now event.now) }
     {
         let mut run = self.copy()?;
-        match run.perform_event_and_find_stop(event)? {
+        match run.precheck_then_perform_event_and_find_stop(event)? {
             None => Ok(None),
             Some(stop) => Ok(Some(stop.into_reason_with_run(run)?)),
         }
@@ -64,12 +66,15 @@ impl RunState {
 
     /// How an event ends: its checks in order, then the event itself. Nothing where the run goes on.
     #[inline(always)]
-    fn perform_event_and_find_stop(&mut self, event: &Event) -> Result<Option<StopKind>, AllocError>
+    fn precheck_then_perform_event_and_find_stop(
+        &mut self,
+        event: &Event,
+    ) -> Result<Option<StopKind>, AllocError>
         requires live { self.old.host.end_reason ≡ None }
         requires clock { self.old.clock < 2 ^ 61 }
         requires base { self.old.base < 2 ^ 61 }
         requires short { IsShort self.old.host.state }
-        ensures ends { IfOk result (λ end. Ends (perform_event_and_find_stop self.old event.now) end self.new) }
+        ensures ends { IfOk result (λ end. Ends (precheck_then_perform_event_and_find_stop self.old event.now) end self.new) }
         ensures memory { OnErr result (self.new.host.end_reason ≡ Some OutOfMemory) }
     {
         if let Some(bar) = failed_precheck(self.base, event) {
@@ -96,7 +101,7 @@ impl RunState {
         ensures ends { IfOk result (λ end. Ends (on_arrival self.old event.now (arrives self.old event.now packet.now)) end self.new) }
         ensures memory { OnErr result (self.new.host.end_reason ≡ Some OutOfMemory) }
     {
-        law_sender_keeps_time_and_bounds_queueing();
+        law_sender_deadline_ahead_and_queue_bounded();
         let moment = self.action_time_not_before_clock(event);
         match arrive(&mut self.host, packet, moment) {
             Ok(()) => {}
@@ -117,7 +122,7 @@ impl RunState {
         ensures ends { IfOk result (λ end. Ends (on_answer self.old event.now call.now (answers self.old event.now call.now)) end self.new) }
         ensures memory { OnErr result (self.new.host.end_reason ≡ Some OutOfMemory) }
     {
-        law_sender_keeps_time_and_bounds_queueing();
+        law_sender_deadline_ahead_and_queue_bounded();
         let moment = self.action_time_not_before_clock(event);
         let call_answer = match advance_host_and_call(&mut self.host, call, moment) {
             Ok(call_answer) => call_answer,
@@ -181,7 +186,7 @@ impl RunState {
         ensures memory { OnErr result (self.new.host.end_reason ≡ Some OutOfMemory) }
         ensures base { self.new.base ≡ self.old.base }
     {
-        law_sender_keeps_time_and_bounds_queueing();
+        law_sender_deadline_ahead_and_queue_bounded();
         match self.host.advance(at) {
             Ok(()) => {}
             Err(ending) => return Ok(Some(StopKind::from_host_end(ending)?)),
@@ -201,7 +206,7 @@ impl RunState {
         requires short { list_any is_long (written_times event.now.time) ≡ false }
         ensures { Ends (packet_taken event.now packet.now self.old (slice_get self.old.host.state.endpoint.outbox 0)) result self.new }
     {
-        law_sender_keeps_time_and_bounds_queueing();
+        law_sender_deadline_ahead_and_queue_bounded();
         let Some(sent) = self.host.outbox().get(0) else {
             return Some(StopKind::Missing);
         };
@@ -212,7 +217,7 @@ impl RunState {
         if let Some(kind) = check_packet(&expect, sent, self.tolerance()) {
             return Some(StopKind::Differs(kind));
         }
-        self.base = base_after_expected_packet(self.base, event.time, sent.at);
+        self.base = base_from_moment_or_later_of_base_and_sent(self.base, event.time, sent.at);
         let _ = self.host.take();
         None
     }

@@ -1,10 +1,10 @@
 //! The director gives the turns: one player at a time goes on, and the next once nothing moves any more.
-use crate::callers::{DeskCalls, free, write_shown};
+use crate::callers::{DeskCalls, remove_scripts_to_wake_waiters, write_shown};
 use crate::interleavings::choices::Choices;
 use crate::interleavings::turnstile::{PlayerPosition, TurnOrder, Turnstile};
 use crate::interleavings::{CALLERS, PLAYERS, WORKERS};
 use crate::progress::TURNS;
-use crate::reference::{ReferenceBook, make_again, write_scratch};
+use crate::reference::{ReferenceBook, replay_acts_and_write_report, write_report_from_scratch};
 use pd_book::Act;
 use std::alloc::{AllocError, Global};
 use std::sync::Wait;
@@ -75,24 +75,24 @@ impl<'a> Director<'a> {
         desk_caller: &mut impl DeskCalls,
         reference: &mut ReferenceBook,
     ) {
-        self.is_right = self.give_turns(rt, turnstile, desk_caller, reference);
+        self.is_right = self.give_turns_while_right(rt, turnstile, desk_caller, reference);
         if !self.is_right {
             turnstile.give_up(rt);
-            free(desk_caller, self.alloc);
+            remove_scripts_to_wake_waiters(desk_caller, self.alloc);
         }
         desk_caller.shut();
         let count = self.made.len();
-        self.write_scratch(count);
+        self.set_wanted_report_of_first_calls(count);
         self.is_right = self.is_shown(desk_caller) && self.is_right;
     }
 
     /// Whether all was right, and a history, made again, has the report that is wanted.
     pub fn is_right_history(&mut self, acts: &[Act]) -> bool {
-        let are_made = make_again(self.alloc, acts, &mut self.shown);
+        let are_made = replay_acts_and_write_report(self.alloc, acts, &mut self.shown);
         self.is_right && are_made && self.wanted.as_str() == self.shown.as_str()
     }
 
-    fn give_turns<R: Wait>(
+    fn give_turns_while_right<R: Wait>(
         &mut self,
         rt: &R,
         turnstile: &Turnstile,
@@ -100,7 +100,7 @@ impl<'a> Director<'a> {
         reference: &mut ReferenceBook,
     ) -> bool {
         for _move in 0..MOVES {
-            if !self.await_rest(rt, turnstile, desk_caller, reference)
+            if !self.await_rest_with_wanted_report(rt, turnstile, desk_caller, reference)
                 || !self.are_right(rt, turnstile)
             {
                 return false;
@@ -111,7 +111,9 @@ impl<'a> Director<'a> {
                 return true;
             }
             match options.get(self.choices.choose(count)) {
-                Some(who) => self.let_go_on(rt, turnstile, *who, standing, reference),
+                Some(who) => self.grant_turn_and_do_by_hand(
+                    rt, turnstile, *who, standing, reference,
+                ),
                 None => return false,
             }
         }
@@ -120,7 +122,7 @@ impl<'a> Director<'a> {
 
     /// Lets a player go on, and does the same by hand: makes a caller's next call, or hands in a worker's result; then starts
     /// what workers that are free start now.
-    fn let_go_on<R: Wait>(
+    fn grant_turn_and_do_by_hand<R: Wait>(
         &mut self,
         rt: &R,
         turnstile: &Turnstile,
@@ -130,7 +132,7 @@ impl<'a> Director<'a> {
     ) {
         let place = standing.place(who);
         if who < CALLERS {
-            self.let_call(who, reference);
+            self.make_next_call_by_hand(who, reference);
         } else if matches!(place.spot, PlayerPosition::Done) {
             reference.finish(place.job);
             self.busy = self.busy.wrapping_sub(1);
@@ -144,7 +146,7 @@ impl<'a> Director<'a> {
     }
 
     /// Makes a caller's next call by hand, and notes it.
-    fn let_call(&mut self, who: usize, reference: &mut ReferenceBook) {
+    fn make_next_call_by_hand(&mut self, who: usize, reference: &mut ReferenceBook) {
         if let Some(caller) = self.callers.get_mut(who) {
             let (call, left) = caller.left.split_once("; ").unwrap_or((caller.left, ""));
             caller.left = left;
@@ -160,7 +162,7 @@ impl<'a> Director<'a> {
 
     /// Waits until whoever goes on waits for a turn or for verdicts, and the report is that of the calls made by hand;
     /// whether it is so within the turns.
-    fn await_rest<R: Wait>(
+    fn await_rest_with_wanted_report<R: Wait>(
         &mut self,
         rt: &R,
         turnstile: &Turnstile,
@@ -226,15 +228,15 @@ impl<'a> Director<'a> {
             None => None,
         };
         match settling {
-            Some(before) => self.is_report(before, out),
+            Some(before) => self.is_report_of_calls_from_count_on(before, out),
             None => out.is_empty() || out == self.answer.as_str(),
         }
     }
 
     /// Whether the output is the report from scratch of so many calls or more.
-    fn is_report(&mut self, before: usize, out: &str) -> bool {
+    fn is_report_of_calls_from_count_on(&mut self, before: usize, out: &str) -> bool {
         for count in before..=self.made.len() {
-            self.write_scratch(count);
+            self.set_wanted_report_of_first_calls(count);
             if self.wanted.as_str() == out {
                 return true;
             }
@@ -243,8 +245,8 @@ impl<'a> Director<'a> {
     }
 
     /// Notes the report from scratch of the first so many calls as the one that is wanted.
-    fn write_scratch(&mut self, count: usize) {
+    fn set_wanted_report_of_first_calls(&mut self, count: usize) {
         let made = self.made.get(..count).unwrap_or(&[]);
-        write_scratch(self.alloc, made, &mut self.wanted);
+        write_report_from_scratch(self.alloc, made, &mut self.wanted);
     }
 }

@@ -1,5 +1,5 @@
 //! Where threads hand the turn on.
-use crate::callers::answers;
+use crate::callers::new_answers_for_threads;
 use crate::interleavings::{CALLERS, PLAYERS};
 use std::alloc::{AllocError, Global};
 use std::sync::{Condvar, Mutex, Wait};
@@ -101,7 +101,7 @@ pub struct Turnstile {
 impl Turnstile {
     pub fn new(alloc: Global) -> Result<Turnstile, AllocError> {
         Ok(Turnstile {
-            answers: answers(alloc, CALLERS)?,
+            answers: new_answers_for_threads(alloc, CALLERS)?,
             standing: Mutex::new(AT_FIRST),
             moved: Condvar::new(),
         })

@@ -8,17 +8,19 @@ pub fn is_served(served: &ServedOutput, alone: &ServedOutput, are_settled: &[boo
         (Some(passes), Some(wanted)) => passes == wanted,
         _ => false,
     };
-    is_same_end && is_output(served.out.as_str(), alone.out.as_str(), are_settled)
+    is_same_end
+        && is_same_but_for_pending_lines(served.out.as_str(), alone.out.as_str(), are_settled)
 }
 
-fn is_output(out: &str, wanted: &str, are_settled: &[bool]) -> bool {
+fn is_same_but_for_pending_lines(out: &str, wanted: &str, are_settled: &[bool]) -> bool {
     let mut others = wanted.split("\n");
     let mut law_reports = 0usize;
     let mut is_same = true;
     for line in out.split("\n") {
         let other = others.next().unwrap_or("(nothing)");
         let is_settled = are_settled.get(law_reports).copied().unwrap_or(true);
-        is_same = is_same && (line == other || (!is_settled && is_pending(line, other)));
+        is_same = is_same
+            && (line == other || (!is_settled && is_pending_form_of_line(line, other)));
         if other.starts_with("total ") {
             law_reports = law_reports.saturating_add(1);
         }
@@ -27,7 +29,7 @@ fn is_output(out: &str, wanted: &str, are_settled: &[bool]) -> bool {
 }
 
 /// Whether a line is that of the same script, pending, or counts the same scripts.
-fn is_pending(line: &str, other: &str) -> bool {
+fn is_pending_form_of_line(line: &str, other: &str) -> bool {
     let (name, standing) = halves(line);
     let (wanted, verdict) = halves(other);
     let is_count = name == "total" && halves(standing).0 == halves(verdict).0;

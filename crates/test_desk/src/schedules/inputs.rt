@@ -55,24 +55,24 @@ impl RandomInput {
         for _command in 0..commands {
             self.add_command(random);
         }
-        self.note_report(true);
+        self.note_whether_report_settled(true);
     }
 
     fn add_command(&mut self, random: &mut Random) {
         let script = random.pick(&SCRIPTS);
         let line = random.pick(&LINES);
         match random.below(16) {
-            0..=4 => self.put(&["add ", script, BEGINNING, line, "\n"]),
-            5..=9 => self.put(&["edit ", script, " 4 1 1\n", line, "\n"]),
-            10 => self.put(&["remove ", script, "\n"]),
-            11 => self.put(&["set ", random.pick(&SETTINGS), "\n"]),
+            0..=4 => self.add_to_both(&["add ", script, BEGINNING, line, "\n"]),
+            5..=9 => self.add_to_both(&["edit ", script, " 4 1 1\n", line, "\n"]),
+            10 => self.add_to_both(&["remove ", script, "\n"]),
+            11 => self.add_to_both(&["set ", random.pick(&SETTINGS), "\n"]),
             12..=14 => self.report("show\n", false),
             _ => self.report("settle\n", true),
         }
     }
 
     /// Adds these pieces to both.
-    fn put(&mut self, pieces: &[&str]) {
+    fn add_to_both(&mut self, pieces: &[&str]) {
         for piece in pieces {
             self.written.push_str(piece);
             self.settled.push_str(piece);
@@ -82,10 +82,10 @@ impl RandomInput {
     fn report(&mut self, word: &str, is_settled: bool) {
         self.written.push_str(word);
         self.settled.push_str("settle\n");
-        self.note_report(is_settled);
+        self.note_whether_report_settled(is_settled);
     }
 
-    fn note_report(&mut self, is_settled: bool) {
+    fn note_whether_report_settled(&mut self, is_settled: bool) {
         if self.are_settled.push(is_settled).is_err() {
             self.written.is_whole = false;
         }

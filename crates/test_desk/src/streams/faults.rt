@@ -66,7 +66,7 @@ impl StreamRuns {
     }
 
     /// Newlines for ever are read up to the limit on reads, and the read that reports the end counts too.
-    pub fn check_newlines(&mut self) {
+    pub fn check_endless_newlines(&mut self) {
         let mut pace = STEADY;
         pace.given = 1;
         pace.is_endless = true;

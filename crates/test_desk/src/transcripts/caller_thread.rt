@@ -1,6 +1,6 @@
 //! A thread at a seat of its own.
 use crate::callers::{DeskCalls, write_shown};
-use crate::progress::{ThreadProgress, give_way};
+use crate::progress::{ThreadProgress, yield_turns};
 use crate::tracing_worker::WorkerMode;
 use crate::transcripts::changes::change_often;
 use std::alloc::Global;
@@ -23,7 +23,7 @@ pub fn do_part<R: Wait>(
 ) {
     match letter {
         b's' => write_shown(out, desk_caller.settle()),
-        b'o' => out.push_str(settle_often(rt, progress, desk_caller)),
+        b'o' => out.push_str(settle_until_changes_end(rt, progress, desk_caller)),
         b'c' => change_often(desk_caller, alloc, progress, true, out),
         b'a' => change_often(desk_caller, alloc, progress, false, out),
         b'w' => out.push_str(desk_caller.work(alloc, WorkerMode::Plain)),
@@ -33,7 +33,7 @@ pub fn do_part<R: Wait>(
 }
 
 /// Settles until the others have made their changes: `settled`, or the first fault.
-fn settle_often<R: Wait>(
+fn settle_until_changes_end<R: Wait>(
     rt: &R,
     progress: &ThreadProgress,
     desk_caller: &mut impl DeskCalls,
@@ -45,7 +45,7 @@ fn settle_often<R: Wait>(
         if progress.changing.load(Ordering::SeqCst) == 0 {
             break;
         }
-        give_way(BETWEEN);
+        yield_turns(BETWEEN);
     }
     "settled"
 }

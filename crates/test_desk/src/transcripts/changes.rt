@@ -28,12 +28,12 @@ pub fn change_often(
     let name = texts.name(out.as_str().as_bytes());
     out.clear();
     out.push_str(match name {
-        Ok(name) => repeat(desk_caller, progress, &texts, &name, is_edited),
+        Ok(name) => repeat_changes_to_the_end(desk_caller, progress, &texts, &name, is_edited),
         Err(_) => OUT_OF_MEMORY,
     });
 }
 
-fn repeat(
+fn repeat_changes_to_the_end(
     book: &mut impl Calls,
     progress: &ThreadProgress,
     texts: &Texts,
@@ -42,14 +42,19 @@ fn repeat(
 ) -> &'static str {
     let mut are_made = true;
     for _change in 0..CHANGES {
-        are_made = is_changed(book, texts, name, is_edited) && are_made;
+        are_made = are_add_edit_and_remove_accepted(book, texts, name, is_edited) && are_made;
         progress.changes.fetch_add(1, Ordering::SeqCst);
     }
     if are_made { "changed" } else { "refused" }
 }
 
 /// Adds the script, edits it if that is asked for, and removes it; whether nothing was refused.
-fn is_changed(book: &mut impl Calls, texts: &Texts, name: &Name, is_edited: bool) -> bool {
+fn are_add_edit_and_remove_accepted(
+    book: &mut impl Calls,
+    texts: &Texts,
+    name: &Name,
+    is_edited: bool,
+) -> bool {
     let is_added = add(book, texts, name) == "ok";
     let is_left = !is_edited || (edit(book, texts, name) == "ok" && give_up(book) == "ok");
     let is_removed = book.remove(name) == "ok";

@@ -1,5 +1,7 @@
 //! Calls beside threads that wait.
-use crate::callers::{DeskCaller, DeskCalls, answers, free};
+use crate::callers::{
+    DeskCaller, DeskCalls, new_answers_for_threads, remove_scripts_to_wake_waiters,
+};
 use crate::progress::ThreadProgress;
 use crate::transcripts::caller_thread::do_part;
 use crate::transcripts::desk_fixture::DeskFixture;
@@ -40,7 +42,7 @@ pub fn answer_beside<R: Threads + Wait + Sync>(
     if seats.len() != letters.len().saturating_add(1) {
         return out.push_str(NO_SUCH_THING);
     }
-    match answers(alloc, seats.len()) {
+    match new_answers_for_threads(alloc, seats.len()) {
         Ok(answers) => {
             let concurrent_calls = ConcurrentCalls {
                 rt,
@@ -48,7 +50,7 @@ pub fn answer_beside<R: Threads + Wait + Sync>(
                 desk_fixture,
                 calls: arguments.rest,
                 letters,
-                progress: ThreadProgress::of(letters),
+                progress: ThreadProgress::of_thread_letters(letters),
                 answers: answers.as_slice(),
             };
             play(rt, desk, seats, &concurrent_calls);
@@ -79,16 +81,21 @@ impl<'a, R: Wait> ConcurrentCalls<'a, R> {
         if let Some(answer) = self.answers.get(place) {
             let mut out = answer.lock(self.rt);
             match place.checked_sub(1) {
-                None => self.call_all(desk_caller, &mut out),
-                Some(turn) => self.sit(turn, desk_caller, &mut out),
+                None => self.call_all_and_shut_desk(desk_caller, &mut out),
+                Some(turn) => self.do_part_after_those_before(turn, desk_caller, &mut out),
             }
         }
     }
 
     /// Does what a letter says, once those before it had turns to fall asleep.
-    fn sit(&self, turn: usize, desk_caller: &mut impl DeskCalls, out: &mut AnswerText) {
+    fn do_part_after_those_before(
+        &self,
+        turn: usize,
+        desk_caller: &mut impl DeskCalls,
+        out: &mut AnswerText,
+    ) {
         let letter = self.letters.as_bytes().get(turn).copied().unwrap_or(b'-');
-        self.progress.begin_after(turn as u64);
+        self.progress.await_begun_then_begin(turn as u64);
         do_part(
             self.rt,
             self.alloc,
@@ -102,9 +109,9 @@ impl<'a, R: Wait> ConcurrentCalls<'a, R> {
 
     /// Makes the calls, and when all but the workers have ended shuts the desk. Those that aren't woken within the turns are
     /// set free.
-    fn call_all(&self, desk_caller: &mut impl DeskCalls, out: &mut AnswerText) {
+    fn call_all_and_shut_desk(&self, desk_caller: &mut impl DeskCalls, out: &mut AnswerText) {
         let progress = &self.progress;
-        progress.begin_after(progress.workers.wrapping_add(progress.others));
+        progress.await_begun_then_begin(progress.workers.wrapping_add(progress.others));
         for call in self.calls.split("; ") {
             if !out.as_str().is_empty() {
                 out.push_str("; ");
@@ -121,15 +128,15 @@ impl<'a, R: Wait> ConcurrentCalls<'a, R> {
         let mut arguments = CallArguments::new(call);
         match arguments.word() {
             "shut" => desk_caller.shut(),
-            "meet" => self.progress.await_worker(),
+            "meet" => self.progress.await_first_step(),
             "part" => self.progress.meet(),
-            _ => return self.call_seat(desk_caller, &mut arguments, out),
+            _ => return self.call_first_seat(desk_caller, &mut arguments, out),
         }
         out.push_str("ok");
     }
 
     /// Makes the call of seat 0.
-    fn call_seat(
+    fn call_first_seat(
         &self,
         desk_caller: &mut impl DeskCalls,
         arguments: &mut CallArguments<'_>,
@@ -146,8 +153,8 @@ impl<'a, R: Wait> ConcurrentCalls<'a, R> {
 
     /// Waits until so many are counted. Where they aren't within the turns, wakes whoever waits at the desk.
     fn await_or_free(&self, desk_caller: &mut impl DeskCalls, counted: &AtomicU64, count: u64) {
-        if !self.progress.is_reached(counted, count) {
-            free(desk_caller, self.alloc);
+        if !self.progress.await_count_or_note_late(counted, count) {
+            remove_scripts_to_wake_waiters(desk_caller, self.alloc);
         }
     }
 

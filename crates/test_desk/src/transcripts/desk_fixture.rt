@@ -1,14 +1,14 @@
-//! The things that a transcript keeps beside the seats that are here, and its calls of one of these.
+//! Texts, seats that left and started jobs that a desk's transcript keeps, and its calls at a seat here.
 use crate::callers::{DeskCaller, DeskCalls, call_at};
-use crate::transcripts::work_here::work_here;
+use crate::transcripts::work_here::work_plain_short_or_once;
 use pd_desk::Desk;
 use pd_seat::Seat;
 use pd_settings::Value;
 use std::alloc::Global;
 use std::sync::Wait;
 use test_support::{
-    AnswerText, CallArguments, NO_SUCH_THING, OUT_OF_MEMORY, StartedJob, Texts, move_last,
-    write_steps,
+    AnswerText, CallArguments, NO_SUCH_THING, OUT_OF_MEMORY, StartedJob, Texts, move_last_items,
+    write_step_count,
 };
 
 /// The seats that left, the texts that were written, and each job that was started by hand, the first first.
@@ -59,15 +59,20 @@ impl DeskFixture {
         out: &mut AnswerText,
     ) {
         match word {
-            "leave" => move_last(seats, &mut self.away, arguments.number(), out),
-            "call-back" => move_last(&mut self.away, seats, arguments.number(), out),
-            "steps" => write_steps(&mut self.started_jobs, &self.texts, arguments.number(), out),
-            _ => self.act(rt, desk, seats.as_mut_slice(), word, arguments, out),
+            "leave" => move_last_items(seats, &mut self.away, arguments.number(), out),
+            "call-back" => move_last_items(&mut self.away, seats, arguments.number(), out),
+            "steps" => write_step_count(
+                &mut self.started_jobs,
+                &self.texts,
+                arguments.number(),
+                out,
+            ),
+            _ => self.shut_or_call_at_seat(rt, desk, seats.as_mut_slice(), word, arguments, out),
         }
     }
 
     /// Shuts the desk, or makes the call of one of these seats.
-    fn act<R: Wait>(
+    fn shut_or_call_at_seat<R: Wait>(
         &mut self,
         rt: &R,
         desk: &Desk,
@@ -94,8 +99,8 @@ impl DeskFixture {
         out: &mut AnswerText,
     ) {
         match arguments.word() {
-            "fill" => out.push_str(fill(desk_caller, arguments.number())),
-            "work" => work_here(desk_caller, self.alloc, arguments.word(), out),
+            "fill" => out.push_str(fill_history_with_acts(desk_caller, arguments.number())),
+            "work" => work_plain_short_or_once(desk_caller, self.alloc, arguments.word(), out),
             word => call_at(
                 desk_caller,
                 &mut self.started_jobs,
@@ -109,7 +114,7 @@ impl DeskFixture {
 }
 
 /// Makes so many acts that change nothing: `ok`, or the first refusal.
-fn fill(desk_caller: &mut impl DeskCalls, count: u64) -> &'static str {
+fn fill_history_with_acts(desk_caller: &mut impl DeskCalls, count: u64) -> &'static str {
     for _act in 0..count {
         let reply = desk_caller.set(b"mss", Value::Number(1460));
         if reply != "ok" {

@@ -10,7 +10,7 @@ use test_support::{AnswerForm, AnswerText, NO_SUCH_THING};
 
 /// Runs a worker at each of these seats, of which one isn't let in and another finds a full history, and writes whether the
 /// pool ends with the fault of the first in the order of the seats.
-pub fn first_of_pool<R: Threads + Wait + Sync>(
+pub fn yes_if_pool_ends_with_first_fault<R: Threads + Wait + Sync>(
     rt: &R,
     alloc: Global,
     desk: &Desk,
@@ -51,17 +51,17 @@ pub fn settle_beside<R: Threads + Wait + Sync>(
                 seats,
                 DuringPool::Settle(&shown),
             );
-            write_settled(out, &shown.into_inner(), left);
+            write_report_and_pool_end(out, &shown.into_inner(), left);
         }
         Err(_) => out.is_whole = false,
     }
 }
 
 /// Says a report, and how the pool ended unless there was no memory for the report.
-fn write_settled(out: &mut AnswerText, shown: &AnswerText, left: &'static str) {
+fn write_report_and_pool_end(out: &mut AnswerText, shown: &AnswerText, left: &'static str) {
     out.push_str(shown.as_str());
     out.is_whole = out.is_whole && shown.is_whole;
-    if !out.is_out_of_memory() {
+    if !out.is_out_of_memory_answer() {
         out.push_str("; pool ");
         out.push_str(left);
     }

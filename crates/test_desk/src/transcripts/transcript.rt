@@ -1,9 +1,9 @@
-//! A desk and its seats, as a transcript has them.
+//! A desk and its seats, as a transcript opens it, makes calls there and closes it.
 use crate::callers::CACHE;
-use crate::streams::check_streams;
+use crate::streams::answer_streams_check;
 use crate::transcripts::concurrent_calls::answer_beside;
 use crate::transcripts::desk_fixture::DeskFixture;
-use crate::transcripts::pools::{first_of_pool, settle_beside};
+use crate::transcripts::pools::{settle_beside, yes_if_pool_ends_with_first_fault};
 use pd_desk::Desk;
 use pd_seat::{CloseFault, Seat};
 use pd_settings::Settings;
@@ -39,8 +39,8 @@ impl DeskTranscript {
             "text" => self.desk_fixture.lock(rt).write(&mut arguments, out),
             "desk" => self.open(rt, &mut arguments, out),
             "close" => self.close(out),
-            "streams" => check_streams(self.alloc, &mut arguments, out),
-            word => self.answer_there(rt, word, &mut arguments, out),
+            "streams" => answer_streams_check(self.alloc, &mut arguments, out),
+            word => self.answer_at_open_desk(rt, word, &mut arguments, out),
         }
         if !arguments.are_right {
             out.push_str("(not a number)");
@@ -48,7 +48,7 @@ impl DeskTranscript {
     }
 
     /// Makes a call at the desk, and says its answer.
-    fn answer_there<R: Threads + Wait + Sync>(
+    fn answer_at_open_desk<R: Threads + Wait + Sync>(
         &mut self,
         rt: &R,
         word: &str,
@@ -62,7 +62,16 @@ impl DeskTranscript {
             desk_fixture,
         } = self;
         match desk {
-            Some(desk) => answer_at(rt, *alloc, desk, seats, desk_fixture, word, arguments, out),
+            Some(desk) => answer_at_seats_of_desk(
+                rt,
+                *alloc,
+                desk,
+                seats,
+                desk_fixture,
+                word,
+                arguments,
+                out,
+            ),
             None => out.push_str(NO_SUCH_THING),
         }
     }
@@ -96,12 +105,12 @@ impl DeskTranscript {
         let seats = mem::replace(&mut self.seats, Vec::new(self.alloc));
         match desk.close(seats) {
             Ok(book) => write_acts(out, book.history(), false),
-            Err(fault) => self.keep(fault, out),
+            Err(fault) => self.keep_what_failed_close_gave_back(fault, out),
         }
     }
 
     /// Keeps what a closing that failed gave back, and says its fault.
-    fn keep(&mut self, fault: CloseFault<Desk>, out: &mut AnswerText) {
+    fn keep_what_failed_close_gave_back(&mut self, fault: CloseFault<Desk>, out: &mut AnswerText) {
         out.push_str(fault.number_and_name());
         match fault {
             CloseFault::MissingSeat(desk, seats) => {
@@ -114,7 +123,7 @@ impl DeskTranscript {
 }
 
 /// Makes a call at a desk with these seats, and says its answer.
-fn answer_at<R: Threads + Wait + Sync>(
+fn answer_at_seats_of_desk<R: Threads + Wait + Sync>(
     rt: &R,
     alloc: Global,
     desk: &Desk,
@@ -135,7 +144,12 @@ fn answer_at<R: Threads + Wait + Sync>(
             out,
         ),
         "settle-beside" => settle_beside(rt, alloc, desk, seats.as_mut_slice(), out),
-        "first-of-pool" => out.push_str(first_of_pool(rt, alloc, desk, seats.as_mut_slice())),
+        "first-of-pool" => out.push_str(yes_if_pool_ends_with_first_fault(
+            rt,
+            alloc,
+            desk,
+            seats.as_mut_slice(),
+        )),
         _ => desk_fixture
             .lock(rt)
             .answer(rt, desk, seats, word, arguments, out),

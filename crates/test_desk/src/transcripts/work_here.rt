@@ -6,7 +6,12 @@ use std::sync::atomic::{AtomicU64, Ordering};
 use test_support::AnswerText;
 
 /// Works at a seat: until the desk is shut, with steps that find no memory, or up to the job before which the desk is shut.
-pub fn work_here(desk_caller: &mut impl DeskCalls, alloc: Global, how: &str, out: &mut AnswerText) {
+pub fn work_plain_short_or_once(
+    desk_caller: &mut impl DeskCalls,
+    alloc: Global,
+    how: &str,
+    out: &mut AnswerText,
+) {
     match how {
         "plain" => out.push_str(desk_caller.work(alloc, WorkerMode::Plain)),
         "short" => out.push_str(desk_caller.work(alloc, WorkerMode::Short)),

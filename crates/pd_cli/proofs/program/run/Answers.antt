@@ -8,8 +8,8 @@ use Rattle.pd_cli.proofs.program.run.Goals as goal
 pub returns-in-Err-clause-taken : goal.returns-in-Err-clause-taken
 returns-in-Err-clause-taken g c = λ e.
     let words = map g.S.AsStr.text c.args.words.now in
-    memory_ends (g.R.InputStream.has_failed c.args.reader.now) c.write_clap_error_and_return_fault_exit.result (worker_count words) (report_options words) (settings_text pdregress words) (g.R.Read.remaining c.args.reader.now) (g.W.Write.contents c.args.out.now) (g.E.Write.contents c.args.err.now) (g.E.Write.contents c.write_clap_error_and_return_fault_exit.new.err)
-    c.write_clap_error_and_return_fault_exit.ensures.status (c.write_clap_error_and_return_fault_exit.ensures.memory (wanted (refusals words) _ c.in-Err.ensures.refused e))
+    memory_ends (g.R.InputStream.has_failed c.args.reader.now) c.write_clap_error_to_err_and_return_fault_exit.result (worker_count words) (report_options words) (settings_text pdregress words) (g.R.Read.remaining c.args.reader.now) (g.W.Write.contents c.args.out.now) (g.E.Write.contents c.args.err.now) (g.E.Write.contents c.write_clap_error_to_err_and_return_fault_exit.new.err)
+    c.write_clap_error_to_err_and_return_fault_exit.ensures.status (c.write_clap_error_to_err_and_return_fault_exit.ensures.memory (wanted (refusals words) _ c.in-Err.ensures.refused e))
 
 pub returns-clause-taken : goal.returns-clause-taken
 returns-clause-taken g c = λ e.
@@ -22,7 +22,7 @@ returns-clause-taken g c = λ e.
 pub returns-in-Err-clause-output : goal.returns-in-Err-clause-output
 returns-in-Err-clause-output g c = λ e.
     let words = map g.S.AsStr.text c.args.words.now in
-    output_of (g.R.InputStream.has_failed c.args.reader.now) c.write_clap_error_and_return_fault_exit.result (worker_count words) (report_options words) (settings_text pdregress words) (g.R.Read.remaining c.args.reader.now) (g.W.Write.contents c.args.out.now) (g.W.Write.contents c.args.out.now) (g.E.Write.contents c.args.err.now) (g.E.Write.contents c.write_clap_error_and_return_fault_exit.new.err)
+    output_of (g.R.InputStream.has_failed c.args.reader.now) c.write_clap_error_to_err_and_return_fault_exit.result (worker_count words) (report_options words) (settings_text pdregress words) (g.R.Read.remaining c.args.reader.now) (g.W.Write.contents c.args.out.now) (g.W.Write.contents c.args.out.now) (g.E.Write.contents c.args.err.now) (g.E.Write.contents c.write_clap_error_to_err_and_return_fault_exit.new.err)
     (returns-in-Err-clause-taken g c e)
 
 pub returns-clause-output : goal.returns-clause-output

@@ -27,8 +27,8 @@ tokens-preserved c =
     let text : HasText c.args.lines.now (lexed.Token c.in-Token.token) = rw was at c.tokens.invariant.text in
     let same : first_outside (is_symbol c.args.octet) c.tokens.depth (left c.args.lines.now (lexed.Token c.in-Token.token)) ≡ first_outside (is_symbol c.args.octet) 0 (items c.args.lines.now c.args.from) = rw was at c.tokens.invariant.same in
     let few : c.tokens.depth + length (left c.args.lines.now (lexed.Token c.in-Token.token)) ≤ length (items c.args.lines.now c.args.from) = rw was at c.tokens.invariant.few in
-    let next : items c.args.lines.now c.in-Token.token.to ≡ left c.args.lines.now c.replace_lookahead_by_next_token_from.new.lookahead.next =
-    what_is_left c.args.lines.now c.in-Token.token.to c.replace_lookahead_by_next_token_from.new.lookahead.next c.replace_lookahead_by_next_token_from.ensures.next in
+    let next : items c.args.lines.now c.in-Token.token.to ≡ left c.args.lines.now c.advance_lookahead_from_place_in_its_line.new.lookahead.next =
+    what_is_left c.args.lines.now c.in-Token.token.to c.advance_lookahead_from_place_in_its_line.new.lookahead.next c.advance_lookahead_from_place_in_its_line.ensures.next in
     record {
       same =
           ap (λ (ts : List Item). first_outside (is_symbol c.args.octet) c.depth_after_token-depth.result ts) (sym next)
@@ -38,6 +38,6 @@ tokens-preserved c =
           let less : c.depth_after_token-depth.result + length (items c.args.lines.now c.in-Token.token.to) ≤ c.tokens.depth + length (left c.args.lines.now (lexed.Token c.in-Token.token)) =
           fewer c.args.lines.now c.in-Token.token text c.args.octet c.tokens.depth c.depth_after_token-depth.result c.depth_after_token-depth.ensures in
           omega (arith, less, few, ap length next);
-      text = c.replace_lookahead_by_next_token_from.ensures.text;
-      line = c.replace_lookahead_by_next_token_from.ensures.after;
+      text = c.advance_lookahead_from_place_in_its_line.ensures.text;
+      line = c.advance_lookahead_from_place_in_its_line.ensures.after;
     }

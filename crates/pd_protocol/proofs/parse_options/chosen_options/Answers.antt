@@ -12,5 +12,5 @@ returns-clause-chosen_options c = λ words matched.
       settings,
       c.worker_count_or_zero.ensures.count ∙ ap worker_count_or_zero (c.as_bytes.ensures.value ∙ workers),
       c.cache_size_in_range_or_64.ensures.size ∙ ap cache_size_in_range_or_64 (c.as_bytes-2.ensures.value ∙ cache),
-      rw (c.has_flag.ensures words matched, c.in_ok-explain.ensures words matched) refl,
+      rw (c.has_flag.ensures words matched, c.has_flag-2.ensures words matched, c.in_ok-explain.ensures words matched) refl,
     )

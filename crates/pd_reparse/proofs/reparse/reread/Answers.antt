@@ -16,8 +16,8 @@ first_events-requires c = let w = kept_within c.args.same c.args.old.now in omeg
 pub place_after_first_events-place-requires-clause-within : goal.place_after_first_events-place-requires-clause-within
 place_after_first_events-place-requires-clause-within c = let w = kept_within c.args.same c.args.old.now in omega (arith, w, c.count_events_kept_by_same_first_lines-kept.ensures)
 
-pub read_remaining_events-requires : goal.read_remaining_events-requires
-read_remaining_events-requires c =
+pub complete_reading_from_place-requires : goal.complete_reading_from_place-requires
+complete_reading_from_place-requires c =
     let w = kept_within c.args.same c.args.old.now in
     let few = kept_below c.args.same c.args.lines.now c.args.old.now c.requires in
     let n = length-take-le c.count_events_kept_by_same_first_lines-kept.result c.args.old.now.events (omega (arith, w, c.count_events_kept_by_same_first_lines-kept.ensures)) in
@@ -33,4 +33,4 @@ returns-clause-reading c =
     let events : c.in_ok-events.events ≡ take (kept_of same old) old.events = c.in_ok-events.ensures ∙ ap (λ (n : ℕ). take n old.events) count in
     let some : kept_of same old ≡ 0 → ⊥ = λ z. omega (arith, z, c.if-kept-eq0.false, count) in
     let after : (start : Place) → last_place start (take (kept_of same old) old.events) ≡ c.place_after_first_events-place.result = λ start. ap (λ (n : ℕ). last_place start (take n old.events)) (sym count) ∙ c.place_after_first_events-place.ensures start in
-    read_again c.law_first_lines_fix_tokens_in_order.ensures.order c.law_first_lines_fix_tokens_in_order.ensures.same c.law_reading_resumes_at_item_place.ensures c.args.lines.now same old c.in_ok-reading-2.reading c.place_after_first_events-place.result c.law_invariant.ensures c.requires c.in_ok-header.header c.in_ok-events.events header events some after c.in_ok-reading-2.ensures
+    read_again c.law_first_lines_fix_tokens_in_order.ensures.order c.law_first_lines_fix_tokens_in_order.ensures.same c.law_lexing_from_event_start_gives_same_items.ensures c.args.lines.now same old c.in_ok-reading-2.reading c.place_after_first_events-place.result c.law_invariant.ensures c.requires c.in_ok-header.header c.in_ok-events.events header events some after c.in_ok-reading-2.ensures

@@ -5,7 +5,7 @@ use Rattle.pd_run.specs.Run.{verdict_in}
 use Rattle.pd_run.proofs.laws.law_verdicts_are_of_grammar_scripts.Goals as goal
 
 pub returns-clause-given : goal.returns-clause-given
-returns-clause-given c = λ text settings. record { script = script_of text; given = c.law_scripts_are_grammatical.ensures.given text; run = refl }
+returns-clause-given c = λ text settings. record { script = script_of text; given = c.law_parse_gives_the_only_grammatical_reading.ensures.given text; run = refl }
 
 pub returns-clause-only : goal.returns-clause-only
-returns-clause-only c = λ text settings verdict is. is.run ∙ ap (verdict_in settings) (c.law_scripts_are_grammatical.ensures.only text is.script is.given)
+returns-clause-only c = λ text settings verdict is. is.run ∙ ap (verdict_in settings) (c.law_parse_gives_the_only_grammatical_reading.ensures.only text is.script is.given)

@@ -15,7 +15,7 @@ use Rattle.pd_run.proofs.whole_run.run_events.Goals as goal
 
 pub loop-event-preserved : goal.loop-event-preserved
 loop-event-preserved g c =
-    let laws : SenderIsLawful = c.law_sender_keeps_time_and_bounds_queueing.ensures in
+    let laws : SenderIsLawful = c.law_sender_deadline_ahead_and_queue_bounded.ensures in
     let within : IsWithin KeepsTime (3600000000 * c.loop-event.event-index) c.loop-event.state = c.loop-event.invariant.within in
     let told : step c.loop-event.state c.event-item.result ≡ Ok c.step.new.state =
     tells c.loop-event.state c.step.new.state c.event-item.result Go within.live (subst (λ end. Steps c.loop-event.state c.event-item.result end c.step.new.state) c.in-Go.is c.in_ok-step.ensures.ends) in

@@ -14,7 +14,7 @@ returns-clause-sound c =
     let told : step c.self.inside.run c.args.event.now ≡ Ok c.step.new.state =
     tells c.self.inside.run c.step.new.state c.args.event.now Go sound.run.live (subst (λ end. Steps c.self.inside.run c.args.event.now end c.step.new.state) c.in-Go.is c.in_ok-step.ensures.ends) in
     record {
-      run = c.law_runs_stay_in_step_bounds.ensures.step c.self.inside.count c.self.inside.run c.step.new.state c.args.event.now sound.run told;
+      run = c.law_clock_base_and_queue_bounded_per_event.ensures.step c.self.inside.count c.self.inside.run c.step.new.state c.args.event.now sound.run told;
       few = omega (arith, few);
       unmet = sound.unmet;
     }

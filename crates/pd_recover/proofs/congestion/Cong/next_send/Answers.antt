@@ -12,5 +12,5 @@ returns-clause-sendable c =
     let P : NextSegment → Type 0 = λ sent. IsSendable c.args.board.now (segment_of sent) in
     let Q : Option NextSegment → Type 0 = λ o. IfSome o P in
     let e : c.first_by_next_seg_rules.result ≡ next_send c.args.rwnd c.args.board.now c.args.self.now =
-    c.first_by_next_seg_rules.ensures ∙ ap (λ o. first_by_next_seg_rules o c.args.board.now c.args.self.now) c.new_segment_on_board_within_rwnd-unsent.ensures.value in
-    subst Q (sym e) (if_some P (next_send c.args.rwnd c.args.board.now c.args.self.now) (next_sendable c.args.rwnd c.args.board.now c.args.self.now c.new_segment_on_board_within_rwnd-unsent.ensures.known))
+    c.first_by_next_seg_rules.ensures ∙ ap (λ o. first_by_next_seg_rules o c.args.board.now c.args.self.now) c.board_new_segment_at_top_if_whole_in_rwnd-unsent.ensures.value in
+    subst Q (sym e) (if_some P (next_send c.args.rwnd c.args.board.now c.args.self.now) (next_sendable c.args.rwnd c.args.board.now c.args.self.now c.board_new_segment_at_top_if_whole_in_rwnd-unsent.ensures.known))

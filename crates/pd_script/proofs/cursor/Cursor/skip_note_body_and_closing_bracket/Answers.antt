@@ -15,11 +15,11 @@ pub returns-in_err-pairs : goal.returns-in_err-pairs
 returns-in_err-pairs c =
     let p = err_from_is_err_and c.from_residual.result c.from_residual.ensures.1 in
     let more : is_last c.tokens.pairs c.tokens.self ≡ false = cc (c.is_at_note_end.ensures, c.if-is_at_note_end.false) in
-    rw (p.1, p.2) (err_skips ℕ c.in_err-pairs.field-0.0 c.take_note_token.new.self (note_part_at c.tokens.pairs c.tokens.self) (machine_at note_move [] c.args.self.now) (rw c.in_err-pairs.was at c.take_note_token.ensures) (λ e. sym c.tokens.invariant ∙ note_stuck c.tokens.pairs c.tokens.self c.take_note_token.new.self more e))
+    rw (p.1, p.2) (err_skips ℕ c.in_err-pairs.field-0.0 c.take_note_token_giving_open_pairs.new.self (note_part_at c.tokens.pairs c.tokens.self) (machine_at note_move [] c.args.self.now) (rw c.in_err-pairs.was at c.take_note_token_giving_open_pairs.ensures) (λ e. sym c.tokens.invariant ∙ note_stuck c.tokens.pairs c.tokens.self c.take_note_token_giving_open_pairs.new.self more e))
 
 pub tokens-preserved : goal.tokens-preserved
 tokens-preserved c =
     let more : is_last c.tokens.pairs c.tokens.self ≡ false = cc (c.is_at_note_end.ensures, c.if-is_at_note_end.false) in
-    let got = rw c.in_ok-pairs.was at c.take_note_token.ensures in
-    let G = note_goes c.tokens.pairs c.in_ok-pairs.pairs c.tokens.self c.take_note_token.new.self more got in
+    let got = rw c.in_ok-pairs.was at c.take_note_token_giving_open_pairs.ensures in
+    let G = note_goes c.tokens.pairs c.in_ok-pairs.pairs c.tokens.self c.take_note_token_giving_open_pairs.new.self more got in
     sym G.0 ∙ c.tokens.invariant

@@ -17,15 +17,15 @@ tokens-init c =
     let some = some_arguments c.args.self.now (sym c.is_symbol.ensures ∙ c.if-is_symbol.false) in
     rw (c.new-arguments.ensures, c.at_start-inside.ensures) (onto-nil (machine_at argument_move at_start c.args.self.now) ∙ sym some)
 
-pub returns-in_err-take_argument_token : goal.returns-in_err-take_argument_token
-returns-in_err-take_argument_token c =
+pub returns-in_err-take_argument_token_into_context : goal.returns-in_err-take_argument_token_into_context
+returns-in_err-take_argument_token_into_context c =
     let p = err_from_is_err_and c.from_residual.result c.from_residual.ensures.1 in
-    rw (p.1, p.2) (err_moves c.in_err-take_argument_token.field-0.0 c.take_argument_token.new.inside c.take_argument_token.new.self (part_at c.tokens.inside c.tokens.self) (arguments_at c.args.self.now) (rw c.in_err-take_argument_token.was at c.take_argument_token.ensures) (λ e. sym c.tokens.invariant ∙ ap (λ (r : Read (List Argument)). onto c.tokens.arguments r) (part_stuck c.tokens.inside c.tokens.self c.take_argument_token.new.self (cc (c.is_at_argument_end.ensures, c.if-not-is_at_argument_end.true)) e)))
+    rw (p.1, p.2) (err_moves c.in_err-take_argument_token_into_context.field-0.0 c.take_argument_token_into_context.new.inside c.take_argument_token_into_context.new.self (part_at c.tokens.inside c.tokens.self) (arguments_at c.args.self.now) (rw c.in_err-take_argument_token_into_context.was at c.take_argument_token_into_context.ensures) (λ e. sym c.tokens.invariant ∙ ap (λ (r : Read (List Argument)). onto c.tokens.arguments r) (part_stuck c.tokens.inside c.tokens.self c.take_argument_token_into_context.new.self (cc (c.is_at_argument_end.ensures, c.if-not-is_at_argument_end.true)) e)))
 
 pub tokens-preserved-then-not-is_at_argument_end : goal.tokens-preserved-then-not-is_at_argument_end
 tokens-preserved-then-not-is_at_argument_end c =
-    let got = rw c.in_ok-take_argument_token.was at c.take_argument_token.ensures in
-    let G = part_goes c.tokens.inside c.take_argument_token.new.inside c.tokens.self c.take_argument_token.new.self (cc (c.is_at_argument_end.ensures, c.if-not-is_at_argument_end.true)) got in
+    let got = rw c.in_ok-take_argument_token_into_context.was at c.take_argument_token_into_context.ensures in
+    let G = part_goes c.tokens.inside c.take_argument_token_into_context.new.inside c.tokens.self c.take_argument_token_into_context.new.self (cc (c.is_at_argument_end.ensures, c.if-not-is_at_argument_end.true)) got in
     ap (λ (r : Read (List Argument)). onto c.tokens.arguments r) (sym G.0) ∙ c.tokens.invariant
 
 pub returns-then-is_empty : goal.returns-then-is_empty

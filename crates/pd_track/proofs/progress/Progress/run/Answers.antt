@@ -31,7 +31,7 @@ loop-i-preserved g c =
     advances c.loop-i.self.passed c.count_event_and_keep_each_fourth_state.new.self.passed (events_of (drop c.loop-i.i c.args.events.now)) (events_of rest) c.loop-i.self.state c.count_event_and_keep_each_fourth_state.new.self.state c.at.result.now.event
     passed (ap events_of split) told in
     let underway : IsUnderway (c.loop-i.self.passed + 1) c.count_event_and_keep_each_fourth_state.new.self.state =
-    c.law_runs_stay_in_step_bounds.ensures.step c.loop-i.self.passed c.loop-i.self.state c.count_event_and_keep_each_fourth_state.new.self.state c.at.result.now.event c.loop-i.invariant.underway told in
+    c.law_clock_base_and_queue_bounded_per_event.ensures.step c.loop-i.self.passed c.loop-i.self.state c.count_event_and_keep_each_fourth_state.new.self.state c.at.result.now.event c.loop-i.invariant.underway told in
     record {
       passed = omega (arith, passed, c.loop-i.invariant.passed);
       underway = subst (λ n. IsUnderway n c.count_event_and_keep_each_fourth_state.new.self.state) (sym passed) underway;

@@ -1,6 +1,0 @@
--- The law holds.
-use Rattle.pd_host.proofs.Holding.{open_holds_send}
-use Rattle.pd_host.proofs.laws.law_sends_exactly_where_nothing_blocks.Goals as goal
-
-pub returns : goal.returns
-returns c = open_holds_send
