@@ -7,7 +7,7 @@ spreads the runs over processors, and compares, keeps and draws the results.
 A command goes from left to right; each package uses only those to its left:
 
     output -- scripts -- packetdrill -- programs -- imports -- run -- compare -- search
-                                 diagram -- reports -- page -- measure -- watch -- lsp -- commands
+                                 diagram -- reports -- rules -- page -- measure -- watch -- lsp -- commands
 
 `main` reads the arguments by click and hands the options of a command to its module in `commands`.
 

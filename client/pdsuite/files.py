@@ -68,7 +68,7 @@ def _write_and_rename(target: Path, octets: bytes, mode: int | None) -> None:
         raise
 
 
-def require_new_or_empty_folder(path: Path) -> Path:
+def real_path_requiring_new_or_empty_folder(path: Path) -> Path:
     """Where a folder is to be written that is new or empty, and not the one that this process is in."""
     target = Path(os.path.realpath(path))
     try:

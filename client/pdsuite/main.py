@@ -1,4 +1,4 @@
-"""The words of pdsuite, and how it ends."""
+"""The commands of pdsuite with their options, and the status that each ends with."""
 
 import gc
 import io
@@ -10,8 +10,9 @@ from typing import TYPE_CHECKING, Any
 import click
 
 from pdsuite.commands.list import list_script_paths_and_settings
-from pdsuite.commands.options import MOST_RUNS, MOST_SECONDS, PathParam, ReasonParam
+from pdsuite.commands.options import MOST_RUNS, MOST_SECONDS, PathParam, ReasonParam, RuleParam
 from pdsuite.commands.options import (
+    goal_option,
     html_option,
     no_color_option,
     optional_paths_and_script_options,
@@ -26,13 +27,14 @@ from pdsuite.commands.version import commit_and_program_checksum_lines
 from pdsuite.faults import Fault, PlacedFault, error_reason
 from pdsuite.output.octets import printable_octets, printable_text
 from pdsuite.output.screen import OutputError, Screen, is_no_color_unset, print_line_on_stderr
-from pdsuite.output.styled_text import unstyled_text
+from pdsuite.output.styled_text import styled_text_of_one_plain_piece
 from pdsuite.packages import raise_if_module_missing
 from pdsuite.scripts.shards import Shard
 from pdsuite.signals import StoppedError
 
 if TYPE_CHECKING:
     from pdsuite.commands.compare import CompareOptions
+    from pdsuite.commands.rules import RulesOptions
     from pdsuite.commands.search import SearchOptions
 
 FAULT = 2
@@ -42,7 +44,7 @@ def _print_version_and_exit(context: click.Context, option: click.Parameter, on:
     if on and not context.resilient_parsing:
         with Screen(False, progress=False) as screen:
             for line in commit_and_program_checksum_lines():
-                screen.show(unstyled_text(f"{line}\n"))
+                screen.show(styled_text_of_one_plain_piece(f"{line}\n"))
         context.exit()
 
 
@@ -188,10 +190,10 @@ def diff_command(old: Path, new: tuple[Path, ...], no_color: bool) -> int:
     left.
     """
     # Only who compares pays for what reads reports.
-    from pdsuite.commands.diff import diff_reports
+    from pdsuite.commands.diff import diff_reports_returning_1_if_any_worse
 
     with Screen(is_no_color_unset() and not no_color, progress=False) as screen:
-        return diff_reports(old, new, screen)
+        return diff_reports_returning_1_if_any_worse(old, new, screen)
 
 
 @pdsuite.command(name="compare")
@@ -211,6 +213,7 @@ def diff_command(old: Path, new: tuple[Path, ...], no_color: bool) -> int:
     help="The quantity whose largest changes come first: time, if nothing is said.",
 )
 @click.option("--affected", is_flag=True, help="Name rows of tests and paragraphs of pages that say otherwise, too.")
+@click.option("--rules", is_flag=True, help="Name rules of the sender that other scripts come to, too.")
 @click.option(
     "--search",
     metavar="SECONDS",
@@ -224,8 +227,9 @@ def compare_command(no_color: bool, search: int | None, seed: int | None, save: 
     Without --base the sender before is the one that ./prove has proved last in this tree. With --affected, where the
     sender after is a tree, it names before the total what the change affects there: rows of tests/cases that say
     otherwise now, and paragraphs of docs/SENDER.md and docs/LINUX.md that cite a section of what changed. That takes
-    some seconds, or minutes where a sender isn't proved. With --search it makes inputs of its own, in place of scripts,
-    until a recording of the sender before fails under the one after.
+    some seconds, or minutes where a sender isn't proved. With --rules it names before the total each rule of the sender
+    that other scripts come to, with some of them. With --search it makes inputs of its own, in place of scripts, until
+    a recording of the sender before fails under the one after.
     """
     # Only who compares senders pays for what runs two.
     from pdsuite.commands.compare import CompareOptions, compare_senders
@@ -257,10 +261,10 @@ def _refuse_conflicting_compare_options(options: "CompareOptions") -> None:
     if options.is_json and options.is_markdown:
         raise click.UsageError("--json and --markdown are two forms of one report")
     if options.search is not None and (
-        options.html is not None or options.is_json or options.is_markdown or options.affected
+        options.html is not None or options.is_json or options.is_markdown or options.affected or options.rules
     ):
         raise click.UsageError(
-            "--search shows what it finds as text, without --html, --json, --markdown and --affected"
+            "--search shows what it finds as text, without --html, --json, --markdown, --affected and --rules"
         )
 
 
@@ -300,7 +304,7 @@ def measure_command(no_color: bool, **words: Any) -> int:
 
 
 @pdsuite.command(name="search")
-@click.option("--for", "pattern", metavar="PATTERN", required=True, help="Facts of a state, NAME:VALUE each.")
+@goal_option
 @click.option(
     "--seconds",
     metavar="N",
@@ -314,16 +318,50 @@ def measure_command(no_color: bool, **words: Any) -> int:
 def search_command(
     pattern: str, seconds: int, sender: str | None, seed: int | None, save: Path | None, no_color: bool
 ) -> int:
-    """Searches for the least input that brings the sender into a state, and records it: a first script for a rule.
+    """Searches for the least input that brings the sender into a state or to a rule, and records it as a script.
 
-    A fact is NAME:VALUE as a trace has it, and state:NAME the state's name; VALUE may have * and ?.
+    A fact is NAME:VALUE as a trace has it, and state:NAME the state's name; rule:NAME is a rule, as pdsuite rules
+    lists it. VALUE and NAME may have * and ?. All have to hold at one event.
     """
     # Only who searches pays for what makes inputs.
-    from pdsuite.commands.search import SearchOptions, search_state
+    from pdsuite.commands.search import SearchOptions, search_goal
 
     gc.enable()  # a search makes many values
     with Screen(is_no_color_unset() and not no_color, progress=False) as screen:
-        return search_state(pattern, sender, SearchOptions(seconds, seed, save), screen)
+        return search_goal(pattern, sender, SearchOptions(seconds, seed, save), screen)
+
+
+@pdsuite.command(name="rules")
+@optional_paths_and_script_options
+@workers_option
+@click.option("--rule", metavar="NAME", type=RuleParam(), help="List the scripts that come to this rule.")
+@click.option("--script", metavar="FILE", type=PathParam(), help="List the rules that this script comes to.")
+@html_option
+@click.option("--json", "is_json", is_flag=True, help="Print JSON.")
+def rules_command(no_color: bool, **words: Any) -> int:
+    """Lists the rules of the sender, and how many scripts come to each.
+
+    A script comes to a rule when, at an event that passes, a packet leaves by the rule, the rule decides on a segment
+    that arrives, or the sender enters that state or phase. Rules that no script comes to stand first, marked none, with
+    their words. Each other line names the shortest script. A page has all scripts of each rule, with their lines.
+    """
+    # Only who lists rules pays for what counts them.
+    from pdsuite.commands.rules import RulesOptions, list_rules_of_scripts
+
+    options = RulesOptions(**words)
+    _refuse_conflicting_rules_options(options)
+    with Screen(is_no_color_unset() and not no_color, progress=not options.is_json) as screen:
+        return list_rules_of_scripts(options, screen)
+
+
+def _refuse_conflicting_rules_options(options: "RulesOptions") -> None:
+    """Refuses words that go with a script that is named, where others are meant, and the other way round."""
+    if options.script is None and not options.paths:
+        raise click.UsageError("Missing argument 'PATHS...', or --script")
+    if options.script is not None and (options.paths or options.only or options.rule is not None):
+        raise click.UsageError("--script lists the rules of one script, and takes no PATH, --only or --rule")
+    if options.html is not None and (options.rule is not None or options.script is not None):
+        raise click.UsageError("--html writes a page of all rules, and takes no --rule or --script")
 
 
 @pdsuite.command(name="lsp")

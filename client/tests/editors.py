@@ -130,7 +130,7 @@ def neovim_screen(folder: Path, programs: Path) -> EditorTerminal:
     terminal = EditorTerminal(neovim("-c", look, "-c", frame, prepared(folder)), folder, programs)
     terminal.wait("two.pkt", "fail seq")
     terminal.keys("]d")
-    terminal.wait("actual packet")
+    terminal.wait("Diagnostics:")
     return terminal
 
 

@@ -6,7 +6,8 @@ A script whose first line is `sender` has the row SENDER, so that another sender
 `touch PATH` changes a file, and `yield PATH` has another program, if one is there, take this one's place.
 
 With --explain it takes a script's first line for its row, and what stands below that for its explanation. With
---leftovers a line `ends WORDS` below the row of a script that passes is what is printed of its end.
+--leftovers a line `ends WORDS` below the row of a script that passes is what is printed of its end. With --rules each
+line `rules LINE RULE..` of a script is an event on that line, which comes to these rules.
 
 It is started a thousand times, so it imports no more than it needs.
 """
@@ -20,6 +21,11 @@ KILL, SEGV = 9, 11
 OLD_KEYS = ("byte_counting", "restart_after_idle", "recovery_rate")
 OLD_WORDS = ("pipe", "prr", "prr_crb")
 SENDER = "pass 1"
+# The origins of packets; without the rules, another program can be made of this one, which names none.
+NEW_DATA = {"rule": "rfc9293.new-data", "rule_words": "new data (RFC 9293, section 3.8.6.2.1)"}
+EXPIRY = {"rule": "rfc6298.expiry", "rule_words": "first segment at an expiry (RFC 6298, section 5.4)"}
+BY_LINE: dict[str, object] = {"line": 1, **NEW_DATA}
+BY_TIMER: dict[str, object] = {"timer_us": 7, **EXPIRY}
 
 # The keys that are printed of a script that doesn't pass, by its verdict and, where it fails, its kind.
 KEYS: dict[str, dict[str, object]] = {
@@ -32,11 +38,11 @@ KEYS: dict[str, dict[str, object]] = {
     "limit": {"rule": "time", "rule_words": "a time", "limit": 3_600, "text": "?", "text_line": 1, "column": 0},
     "packet": {
         **{"script_packet": "+0 > . 1:2(1) ack 1", "actual_packet": "+0 > . 1:3(2) ack 1 win 5", "sent_us": 7},
-        "sent_by": {"line": 1},
+        "sent_by": BY_LINE,
     },
     "time": {
         **{"script_packet": "+0 > . 1:2(1) ack 1", "actual_packet": "+1 > . 1:2(1) ack 1 win 5", "sent_us": 7},
-        **{"sent_by": {"timer_us": 7}, "awaited_until_us": None, "early_us": 3},
+        **{"sent_by": BY_TIMER, "awaited_until_us": None, "early_us": 3},
     },
     "missing": {
         **{"script_packet": "* > . 1:2(1) ack 1", "awaited_until_us": None, "timer_us": None},
@@ -262,11 +268,22 @@ def explained(name: str) -> bytes:
     return b""
 
 
+def list_rules(name: str) -> None:
+    """Prints the lines of a script's events that come to rules."""
+    for words in (it.split() for it in texts[name]):
+        if words[:1] == [b"rules"]:
+            line = b"job 1 %b line %b rules %b\n" % (name.encode(), words[1], b" ".join(words[2:]))
+            sys.stderr.buffer.write(line)
+
+
 def explain() -> None:
-    """Says why scripts don't pass that ran at this settle."""
+    """Says which rules scripts come to that ran at this settle, and why they don't pass."""
+    if "--rules" in sys.argv:
+        for name in (it for it in owed if it in texts):
+            list_rules(name)
     if "--explain" in sys.argv:
         sys.stderr.buffer.write(b"".join(explained(name) for name in owed if name in texts))
-        sys.stderr.flush()
+    sys.stderr.flush()
     owed.clear()
 
 

@@ -183,6 +183,8 @@ def settle(change: str, words: list[str]) -> int:
             text = b"".join(sys.stdin.buffer.readline() for _ in range(int(command[2])))
             row = row_of(text, change, is_set)
             rows.append(f"{command[1].decode()} {row}")
+            if "--rules" in words:
+                list_rules(command[1].decode(), text)
             if explains and not row.startswith("pass"):
                 print(explained(command[1].decode(), row.split()[1], "--json" in words), file=sys.stderr)
         elif command[:1] in ([b"settle"], [b"show"]):
@@ -191,6 +193,13 @@ def settle(change: str, words: list[str]) -> int:
     if not is_explained:
         report(rows)
     return 0
+
+
+def list_rules(name: str, text: bytes) -> None:
+    """Prints the rule of each call that listens."""
+    for number, line in enumerate(text.splitlines(), 1):
+        if b" listen(" in line:
+            print(f"job 1 {name} line {number} rules rfc9293.state.listen", file=sys.stderr, flush=True)
 
 
 def explained(name: str, line: str, by_keys: bool) -> str:

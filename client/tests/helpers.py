@@ -113,7 +113,7 @@ def ends(process: "subprocess.Popen[bytes]", number: signal.Signals) -> tuple[in
 PACKET = b"+0 > . 1:2(1) ack 1\n"
 BLOCK_LINES = [
     "script packet: +0 > . 1:2(1) ack 1",
-    "actual packet: +0 > . 1:3(2) ack 1 win 5, sent by line 1",
+    "actual packet: +0 > . 1:3(2) ack 1 win 5, sent by line 1: new data (RFC 9293, section 3.8.6.2.1)",
     "state: ESTABLISHED",
 ]
 

@@ -8,7 +8,7 @@ from pdsuite.programs.program import ProgramEndedError
 from pdsuite.programs.verdict import Row, Verdict
 from pdsuite.run.outcomes import ScriptOutcome
 from pdsuite.scripts.defaults import DEFAULTS
-from pdsuite.scripts.settings import Settings, set_command_words
+from pdsuite.scripts.settings import Settings, set_command_words_or_placeholders
 from pdsuite.watch.plan_changes import WantedScript
 
 MOST = 1_024
@@ -16,7 +16,7 @@ MOST = 1_024
 
 def settings_words(settings: Settings) -> dict[str, str]:
     """Each setting as a word."""
-    return dict(set_command_words(key, value) for key, value in {**DEFAULTS, **dict(settings)}.items())
+    return dict(set_command_words_or_placeholders(key, value) for key, value in {**DEFAULTS, **dict(settings)}.items())
 
 
 def row_of(text: bytes, settings: dict[str, str]) -> Row:
@@ -51,7 +51,7 @@ class Model:
         self._jobs_run: list[tuple[int, bytes]] = []
         self._jobs = 0
 
-    def query(self, commands: bytes, longest: int) -> bytes:
+    def query_answer_regardless_of_errors(self, commands: bytes, longest: int) -> bytes:
         """Carries out commands, and answers the report."""
         left = commands
         while left:
@@ -67,7 +67,7 @@ class Model:
 
     def query_with_errors(self, commands: bytes, longest: int, longest_errors: int) -> tuple[bytes, bytes]:
         """The same, and on standard error nothing but how many steps each script took: one a line."""
-        answer = self.query(commands, longest)
+        answer = self.query_answer_regardless_of_errors(commands, longest)
         jobs = [(number, name) for number, name in self._jobs_run if name in self.texts]
         self._jobs_run = []
         lines = (b"job %d %s steps %d\n" % (number, name, len(self.texts[name])) for number, name in jobs)

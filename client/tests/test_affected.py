@@ -141,7 +141,7 @@ def test_a_sender_without_a_tree_has_nothing_affected(tree: Tree) -> None:
     message = f"pdsuite: --affected: {other} is no tree with tests/cases and tools/affected.py\n"
     assert (called.status, called.out, called.err.endswith(message)) == (2, "", True)
     called = tree.call("compare", "--base", tree.bin, "--search", "1", "--affected")
-    assert called.status == 2 and "without --html, --json, --markdown and --affected" in called.err
+    assert called.status == 2 and "without --html, --json, --markdown, --affected and --rules" in called.err
 
 
 def test_where_nobody_asks_nothing_is_said_of_what_is_affected(tree: Tree) -> None:

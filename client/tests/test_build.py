@@ -1,5 +1,6 @@
 """Builds without proofs that the tools keep, as the client takes them: a kit and the programs stand in."""
 
+import json
 import os
 import select
 import shutil
@@ -96,6 +97,15 @@ def test_scripts_are_recorded_and_expected_by_a_build(tree: Tree) -> None:
     expected = call(tree, "expect", "--reason", "so", "suite")
     assert expected.status == 0 and expected.err == first(tree, "running without proofs")
     assert '["two.pkt"]' in (tree.suite / "pdsuite.toml").read_text()
+
+
+def test_rules_are_listed_by_a_build(tree: Tree) -> None:
+    write(tree.suite, one=b"row pass 1\nrules 2 rfc9293.ack\n")
+    table = call(tree, "rules", "suite")
+    assert (table.status, table.err) == (0, first(tree, "building first, then running without proofs"))
+    assert table.out.splitlines()[-1].endswith(" UNPROVED") and table.out.count("suite/one.pkt\n") == 1
+    for words in (("suite",), ("--rule", "rfc9293.ack", "suite"), ("--script", "suite/one.pkt")):
+        assert json.loads(call(tree, "rules", "--json", *words).out)["UNPROVED"] is True
 
 
 def test_senders_are_compared_by_builds_that_are_kept(tree: Tree) -> None:
@@ -207,7 +217,7 @@ def test_a_build_that_is_ended_leaves_nothing(tree: Tree) -> None:
     with Build(tree.top, "any") as begun:
         wait_for(tree.notes / "reading")
         assert select.select([begun], [], [], 10)[0]
-        begun.read_progress()
+        begun.read_output_to_update_phase_and_is_over()
         assert (begun.phase, begun.is_over) == ("reading", False)
         reader = int((tree.notes / "reading").read_text())
     assert not is_alive(reader)

@@ -109,6 +109,24 @@ def test_a_script_that_was_not_run_has_no_row_that_it_was(report: Report, tmp_pa
     ]
 
 
+def test_a_script_that_a_strict_warning_makes_fail_passes_no_more(report: Report, tmp_path: Path, call: Call) -> None:
+    write(tmp_path / "suite", a=b"row pass 0\n", b=b"row pass 2\n")
+    report("old.json", "suite")
+    report("new.json", "--strict", "suite")
+    called = call(None, "diff", "old.json", "new.json")
+    assert (called.out.splitlines()[0], called.status) == (
+        "suite/a.pkt: passes no more: pass 0 (strict warning), was pass 0",
+        1,
+    )
+    called = call(None, "diff", "new.json", "old.json")
+    assert (called.out.splitlines()[0], called.status) == (
+        "suite/a.pkt: passes again: pass 0, was pass 0 (strict warning)",
+        0,
+    )
+    called = call(None, "diff", "new.json", "new.json")
+    assert (called.out.splitlines()[0][-11:], called.status) == ("as before 2", 0)
+
+
 def test_the_reports_of_shards_count_as_one(report: Report, tmp_path: Path, call: Call) -> None:
     make(tmp_path / "suite", BEFORE)
     report("old.json", "suite")

@@ -57,7 +57,10 @@ EMACS = """
 (save-buffer)
 (eglot-shutdown (eglot-current-server))
 """
-ACTUAL = "actual packet: +0 > P. 1001:2001(1000) ack 1 win 511 // 0.200000, sent by line 11"
+ACTUAL = (
+    "actual packet: +0 > P. 1001:2001(1000) ack 1 win 511 // 0.200000, sent by line 11: new data (RFC 9293, section "
+    "3.8.6.2.1)"
+)
 
 
 def test_neovim_takes_over_what_was_sent(recording_programs: Path, tmp_path: Path, call: Call) -> None:

@@ -14,7 +14,7 @@ from pdsuite.programs.verdict import Row, Verdict
 from pdsuite.run.outcomes import CountedAs, ScriptOutcome, OutcomeTotals
 from pdsuite.scripts.config import parse_layer
 from pdsuite.scripts.expectation import Expectation, can_begin_failing_row
-from pdsuite.watch.change_report import changed_outcomes
+from pdsuite.watch.change_report import outcomes_with_changed_rows_passing_last
 from tests.helpers import BLOCK_LINES, FAILS, PACKET, PASSES, Call, write
 from tests.test_reports import NAMES, parse_tap
 from tests.watch_process import Watching
@@ -116,7 +116,7 @@ def test_how_a_script_is_counted(row: Row, words: str | None, tally: Verdict | C
 
 def test_while_scripts_are_watched_known_rows_come_after_those_that_fail() -> None:
     known, failing = outcome(SEQ, "fail"), outcome(SEQ)
-    assert changed_outcomes({}, {"a.pkt": known, "b.pkt": failing}) == [failing, known]
+    assert outcomes_with_changed_rows_passing_last({}, {"a.pkt": known, "b.pkt": failing}) == [failing, known]
 
 
 def test_known_rows_are_counted_apart_and_make_no_run_fail() -> None:

@@ -2,6 +2,7 @@
 
 import json
 import os
+import shutil
 import signal
 import subprocess
 import time
@@ -16,7 +17,7 @@ from pdsuite.programs.protocol import (
     parse_causes_by_script_and_line,
     script_name_of_number,
 )
-from pdsuite.run.script_style import drop_insert_windows_if_script_has_none
+from pdsuite.run.script_style import restyle_suggested_insertions_like_script
 from pdsuite.scripts.text import make_newline_ended_text_within_limits
 from tests.helpers import BLOCK_LINES, OPENED, PACKET, PASSES, TOP, Call, ends, is_alive, wait_for, wrapped, write
 from tests.lsp_scripts import HEAD, failing_cases, failing_scripts
@@ -51,6 +52,35 @@ def test_every_form_has_the_block(fake_program: Path, tmp_path: Path, call: Call
     assert "%0A".join(reported) in call(fake_program, "run", "--github", ".").out
     call(fake_program, "run", "--junit", "out.xml", ".")
     assert "\n".join(reported).replace(">", "&gt;") in (tmp_path / "out.xml").read_text()
+
+
+def test_a_packet_has_the_rule_by_which_it_left_where_the_program_names_it() -> None:
+    packets = {"actual_packet": "x", "untaken_packets": ["y", "z"]}
+    sent_by = {"line": 8, "rule": "rfc6675.next-seg.rescue", "rule_words": "rescue (RFC 1)"}
+    untaken = [{"timer_us": 7, "rule": "rfc6298.expiry", "rule_words": "an expiry"}, {"line": 9}]
+    assert explanation_lines_below_first({**packets, "sent_by": sent_by, "untaken_sent_by": untaken}) == (
+        "actual packet: x, sent by line 8: rescue (RFC 1)",
+        "untaken packet: y, sent by the timer: an expiry",
+        "untaken packet: z, sent by line 9",
+    )
+
+
+def test_a_program_that_names_no_rule_is_shown_with_what_sent_a_packet(
+    fake_program: Path, tmp_path: Path, call: Call
+) -> None:
+    older = tmp_path / "older"
+    shutil.copytree(fake_program, older)
+    octets = (older / "pdregress").read_bytes()
+    for rule in (b", **NEW_DATA}", b", **EXPIRY}"):
+        assert rule in octets
+        octets = octets.replace(rule, b"}")
+    (older / "pdregress").write_bytes(octets)
+    write(tmp_path / "suite", a=b"row fail 2 seq\n" + PACKET, b=b"row fail 2 time\n" + PACKET)
+    by_line, by_timer = ("+0 > . 1:3(2) ack 1 win 5, sent by line 1", "+1 > . 1:2(1) ack 1 win 5, sent by the timer")
+    shown = [it for it in call(older, "run", "suite").out.splitlines() if "actual packet" in it]
+    assert shown == [f"  actual packet: {it}" for it in (by_line, by_timer)]
+    scripts = json.loads(call(older, "run", "--json", "suite").out)["scripts"]
+    assert [it["explanation"]["sent_by"] for it in scripts] == [{"line": 1}, {"timer_us": 7}]
 
 
 def test_the_script_s_settings_are_given(tmp_path: Path, fake_program: Path, call: Call) -> None:
@@ -131,7 +161,7 @@ MANNERS = {
 @pytest.mark.parametrize(("line", "mend"), MANNERS.items(), ids=range(len(MANNERS)))
 def test_a_packet_to_be_inserted_is_written_as_the_script_writes_its_own(line: str, mend: str) -> None:
     reported = (f"mend by inserting: {SENT}", f"actual packet: {SENT}, sent by line 2")
-    assert drop_insert_windows_if_script_has_none(reported, f"// Why.\n{line}\n".encode()) == (
+    assert restyle_suggested_insertions_like_script(reported, f"// Why.\n{line}\n".encode()) == (
         f"mend by inserting: {mend}",
         reported[1],
     )

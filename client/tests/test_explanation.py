@@ -23,6 +23,8 @@ SCRIPT = b"""0 write(4, ..., 1000) = 1000 // \xc3\xbc \xff
 SENT = "+0 > P. 1:1001(1000) ack 1 win 511 <...> // 0.200000"
 # So many times a text, as rows write it.
 _REPEATED = re.compile(r"\\<(\d+) (.*?)\\>")
+# A rule by which packets leave, and its words or its key, as the program's source has them.
+_NAMED_RULE = re.compile(r'SendRule::(\w+) => "([^"]+)"')
 PACKETS = {"script_packet": r"+0 > P. 1:501(500) ack 1 win 9 <mss 1000,\x0a    nop>", "actual_packet": SENT}
 
 
@@ -112,6 +114,8 @@ def test_a_report_has_whole_explanations_and_what_the_last_run_left_has_none(
     first, second, third = held("run", called.out)["scripts"]
     assert first["explanation"]["fields"]["actual_packet"]["seq"] == {"start": 1, "end": 3}
     assert first["explanation"]["state"] == {"name": "ESTABLISHED"}
+    words = "new data (RFC 9293, section 3.8.6.2.1)"
+    assert first["explanation"]["sent_by"] == {"line": 1, "rule": "rfc9293.new-data", "rule_words": words}
     assert "explanation" not in second and "explanation" not in third
     (kept,) = tmp_path.glob("cache/pdsuite/*.json")
     assert "explanation" not in kept.read_text()
@@ -143,6 +147,40 @@ def test_what_the_program_tells_has_the_schema() -> None:
     for row in rows:
         del row["name"]
         jsonschema.validate({**row, "place": place(1, 0, 1, 1)}, schema)
+
+
+RULE = {"rule": "rfc6298.expiry", "rule_words": "first segment at an expiry (RFC 6298, section 5.4)"}
+# Objects, each with whether it is the origin of a packet.
+ORIGINS: list[tuple[dict[str, object], bool]] = [
+    ({"line": 8}, True),
+    ({"timer_us": 0}, True),
+    ({"line": 8, **RULE}, True),
+    ({"timer_us": 7, **RULE}, True),
+    ({**RULE}, False),
+    ({}, False),
+    ({"line": 8, "timer_us": 7}, False),
+    ({"line": 8, "timer_us": 7, **RULE}, False),
+    ({"line": 0, **RULE}, False),
+    ({"line": 8, "rule": "rfc6298.expiry"}, False),
+    ({"line": 8, "rule_words": "first segment"}, False),
+    ({"line": 8, **RULE, "rule": "expired"}, False),
+    ({"line": 8, **RULE, "rfc": 6298}, False),
+]
+
+
+@pytest.mark.parametrize(("origin", "is_one"), ORIGINS)
+def test_an_origin_is_a_line_or_the_timer_and_may_have_the_rule(origin: dict[str, object], is_one: bool) -> None:
+    schema = {"$ref": "#/$defs/origin", "$defs": schema_of("run")["$defs"]}
+    assert jsonschema.Draft202012Validator(schema).is_valid(origin) == is_one
+
+
+def test_the_rules_by_which_packets_leave_are_those_of_the_schema_and_of_the_document() -> None:
+    _, *functions = (TOP / "crates/pd_explain/src/render/send_rules.rt").read_text().split("pub fn ")
+    words, keys = (dict(_NAMED_RULE.findall(it)) for it in functions)
+    assert words.keys() == keys.keys() and len(keys) >= 15
+    assert schema_of("run")["$defs"]["origin"]["properties"]["rule"]["enum"] == list(keys.values())
+    listed = re.findall(r"^- `([^`]+)`: `([^`]+ \(RFC [^`]+\))`", (TOP / "docs/EXPLAIN.md").read_text(), re.MULTILINE)
+    assert listed == [(key, words[name]) for name, key in keys.items()]
 
 
 @pytest.mark.parametrize(

@@ -3,14 +3,17 @@
 from pdsuite.packetdrill.items import Call, Packet, TcpOption
 from pdsuite.programs.verdict import Row, Verdict
 from pdsuite.search.find import Find
-from pdsuite.search.finished_script import least_script_of_find, prepend_comment_and_rerun_for_row
-from pdsuite.search.inputs import Input, Inputs, make_call, make_dataless_inbound_packet
+from pdsuite.search.finished_script import least_script_of_find, prepend_comment_stating_row_of_rerun
+from pdsuite.search.inputs import Input, Inputs, make_dataless_inbound_packet, make_unrecorded_call
 from pdsuite.search.renumber import inputs_less_one_round
 from pdsuite.search.simulate import TICK
 from pdsuite.search.states import TracedState
 from tests.test_input_search import Toy
 
-OPENING: tuple[Packet | Call, ...] = (make_call("listen", 3, 1), make_dataless_inbound_packet("S", 0, None, 9))
+OPENING: tuple[Packet | Call, ...] = (
+    make_unrecorded_call("listen", 3, 1),
+    make_dataless_inbound_packet("S", 0, None, 9),
+)
 
 
 def ack(number: int, *blocks: int) -> Input:
@@ -54,7 +57,7 @@ def find(change: str, *events: Input) -> Find:
 
 def test_a_script_waits_for_no_more_than_it_expects_and_ends_with_the_line_that_fails() -> None:
     waits = [Input(at * 1_000_000, TICK) for at in (1, 3, 9)]
-    found = find("late", Input(0, make_call("write", 4, "...", 1_000)), *waits)
+    found = find("late", Input(0, make_unrecorded_call("write", 4, "...", 1_000)), *waits)
     done = least_script_of_find(found, Toy(), Toy("late"))
     lines = done.script.octets.decode().splitlines()
     assert not any("fcntl" in it for it in lines) and done.row == Row(Verdict.FAIL, len(lines), "seq")
@@ -64,9 +67,9 @@ def test_a_script_waits_for_no_more_than_it_expects_and_ends_with_the_line_that_
 
 
 def test_the_comment_names_the_line_where_it_stands() -> None:
-    found = find("late", Input(0, make_call("write", 4, "...", 1_000)), Input(9_000_000, TICK))
+    found = find("late", Input(0, make_unrecorded_call("write", 4, "...", 1_000)), Input(9_000_000, TICK))
     done = least_script_of_find(found, Toy(), Toy("late"))
-    headed = prepend_comment_and_rerun_for_row(
+    headed = prepend_comment_stating_row_of_rerun(
         done, lambda row: ["one", f"fails {row and row.whole_text_without_name}"], Toy("late")
     )
     assert done.row is not None and done.row.number is not None and headed.row is not None

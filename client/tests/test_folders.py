@@ -76,7 +76,7 @@ def test_a_path_that_stays_away_is_gone(watched_folder: WatchFixture) -> None:
     watched_folder.wait(0.03)
     assert len(watched_folder.rows) == 1
     watched_folder.wait(0.03)
-    assert watched_folder.rows == {} and watched_folder.view.last_report_exit_status_if_any == 2
+    assert watched_folder.rows == {} and watched_folder.view.last_exit_status_with_outdated_as_fault == 2
     assert watched_folder.paper.notes == ["pdsuite: no script found"]
     path.write_bytes(b"one\n")
     watched_folder.wait(0)

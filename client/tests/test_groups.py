@@ -17,7 +17,7 @@ from pdsuite.compare.quantities import (
 from pdsuite.programs.verdict import Row, Verdict
 from pdsuite.reports.comparison import ComparisonReport, comparison_json, plain_comparison
 from pdsuite.reports.comparison_markdown import whole_comparison_as_markdown
-from pdsuite.reports.quantities import quantity_lines_of_all_scripts
+from pdsuite.reports.quantities import total_and_changed_quantity_lines
 from pdsuite.run.outcomes import ScriptOutcome
 from tests.schemas import held
 
@@ -78,19 +78,21 @@ def test_the_largest_group_comes_first_with_one_script_whole_and_the_others_by_t
         ["b.pkt", "c.pkt"],
         ["a.pkt"],
     ]
-    heads = [line for line in plain_comparison(report_of()).plain.splitlines() if not line.startswith(" ")]
+    heads = [
+        line for line in plain_comparison(report_of()).text_without_styles.splitlines() if not line.startswith(" ")
+    ]
     assert heads[:4] == [
         "2 scripts differ first in cwnd, at the ACK that establishes:",
         "b.pkt: turned",
         "c.pkt: turned: RFC 1, section 3: c.",
         "a.pkt: turned",
     ]
-    whole = plain_comparison(report_of(is_every=True)).plain.splitlines()
+    whole = plain_comparison(report_of(is_every=True)).text_without_styles.splitlines()
     assert whole.count("  before: pass 3") == 3 and "c.pkt: turned" in whole
 
 
 def test_as_json_the_groups_name_their_scripts() -> None:
-    found = held("compare", comparison_json(report_of(), ("x", "y")).plain)
+    found = held("compare", comparison_json(report_of(), ("x", "y")).text_without_styles)
     assert [(it["kind"], it["field"], [each["path"] for each in it["scripts"]]) for it in found["groups"]] == [
         ("turned", "cwnd", ["b.pkt", "c.pkt"]),
         ("turned", "seq", ["a.pkt"]),
@@ -101,7 +103,7 @@ def test_as_json_the_groups_name_their_scripts() -> None:
 
 
 def test_as_markdown_no_comment_is_markup() -> None:
-    lines = whole_comparison_as_markdown(report_of(), ("one `x`", "y")).plain.splitlines()
+    lines = whole_comparison_as_markdown(report_of(), ("one `x`", "y")).text_without_styles.splitlines()
     assert lines[:5] == [
         "## Before and after",
         "",
@@ -139,17 +141,17 @@ def test_the_largest_changes_come_first_by_the_quantity_that_is_asked_for() -> N
     assert [it.path for it in sorted_quantity_changes(scripts, Quantity.TIME)] == ["two.pkt", "one.pkt"]
     assert [it.path for it in sorted_quantity_changes(scripts, Quantity.AGAIN)] == ["one.pkt", "two.pkt"]
     assert summed_quantities_before_and_after(scripts).after == Quantities(5, 1_000, 0, 200_000 + 300_000 + 9_300_000)
-    assert list(quantity_lines_of_all_scripts(scripts, Quantity.TIME, False))[1:] == [
+    assert list(total_and_changed_quantity_lines(scripts, Quantity.TIME, False))[1:] == [
         "  two.pkt: last octet acknowledged at 9.300000 to 0.300000",
         "  one.pkt: segments 1 to 3, octets sent again 0 to 1,000",
     ]
     many = [replace(it, index=number) for number in range(4) for it in scripts]
-    assert len(list(quantity_lines_of_all_scripts(many, Quantity.TIME, True))) == 9
-    assert len(list(quantity_lines_of_all_scripts(scripts[2:], Quantity.TIME, True))) == 0
+    assert len(list(total_and_changed_quantity_lines(many, Quantity.TIME, True))) == 9
+    assert len(list(total_and_changed_quantity_lines(scripts[2:], Quantity.TIME, True))) == 0
 
 
 @pytest.mark.parametrize(("count", "more"), [(10, []), (11, ["  1 more (--every)"])])
 def test_ten_scripts_with_changed_quantities_are_shown_and_how_many_more_there_are(count: int, more: list[str]) -> None:
     scripts = [script(f"s{number:02}.pkt", BASE, BASE + sent(1)) for number in range(count)]
-    assert list(quantity_lines_of_all_scripts(scripts, Quantity.TIME, False))[11:] == more
-    assert len(list(quantity_lines_of_all_scripts(scripts, Quantity.TIME, True))) == 1 + count
+    assert list(total_and_changed_quantity_lines(scripts, Quantity.TIME, False))[11:] == more
+    assert len(list(total_and_changed_quantity_lines(scripts, Quantity.TIME, True))) == 1 + count

@@ -12,7 +12,7 @@ from pdsuite.imports.packets import (
     fixed_moments_of_items,
     packets_as_sent,
     script_smss_from_first_syn,
-    writes_before_items,
+    write_calls_before_each_item,
 )
 from pdsuite.packetdrill.items import Packet
 from pdsuite.packetdrill.reader import parse_items_until_syntax_error
@@ -95,7 +95,7 @@ def test_moments_and_writes_are_counted_up() -> None:
     assert moments == [1_000_000, 1_500_000, None, None, 3_000_000, 3_000_000, None]
     first = (Write(10, 1_000_000),)
     both = (*first, Write(15, None))
-    assert writes_before_items(items, moments) == [(), first, first, first, both, both, both]
+    assert write_calls_before_each_item(items, moments) == [(), first, first, first, both, both, both]
 
 
 ASSERTED: list[tuple[str, list[str], list[str]]] = [

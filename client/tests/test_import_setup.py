@@ -10,8 +10,8 @@ from pdsuite.imports.setup import (
     CommandPlace,
     ParsedCommand,
     Setup,
-    parse_command_text,
-    setup_from_lines,
+    parse_each_shell_command_in_text,
+    setup_from_kernel_header_lines_then_own,
     shift_count_for_buffer,
 )
 from pdsuite.imports.shell import Defaults, Metric, Other, SetupCommand, Switch, setup_commands_in
@@ -31,6 +31,11 @@ COMMANDS: list[tuple[str, list[SetupCommand]]] = [
     ("ip ro replace default dev tun0 rto_min 1s initcwnd 4", [Metric("rto_min", "1s"), Metric("initcwnd", "4")]),
     ("ip route change default initcwnd 2 &> /dev/null", [Metric("initcwnd", "2")]),
     ("ip route change default initcwnd 2 2> /dev/null", [Metric("initcwnd", "2")]),
+    ("ip route change default initcwnd 2 > /dev/null", [Metric("initcwnd", "2")]),
+    ("ip route change default initcwnd 1 >/dev/null 2>&1", [Metric("initcwnd", "1")]),
+    ("ip route change default initcwnd '2'>/dev/null", [Metric("initcwnd", "2")]),
+    ("sysctl -q a='1 2>&1'", [Switch("a", "1 2>&1")]),
+    ("ip route change default initcwnd 2 1>/dev/null 2>>/dev/null", [Metric("initcwnd", "2")]),
     ("./defaults.sh\n", [Defaults("./defaults.sh")]),
     ("../common/defaults.sh", [Defaults("../common/defaults.sh")]),
     # A command that isn't read keeps its words, and nothing of it counts.
@@ -105,12 +110,12 @@ def looked(text: str, place: CommandPlace = CommandPlace.SETUP, file: str | None
     def load(path: str) -> str:
         return no_file(path) if file is None else file
 
-    return parse_command_text(text, 7, place, load)
+    return parse_each_shell_command_in_text(text, 7, place, load)
 
 
 def came_of(text: str, own: dict[str, Value] | None = None, smss: int = 1000, file: str | None = None) -> Setup:
     """The set-up that the commands of a text lead to."""
-    return setup_from_lines(looked(text, file=file).lines, smss, {}, own)
+    return setup_from_kernel_header_lines_then_own(looked(text, file=file).lines, smss, {}, own)
 
 
 KERNEL = {
@@ -214,7 +219,7 @@ def test_a_defaults_sh_is_read_in_the_place_of_its_name() -> None:
     assert came_of("./defaults.sh", file=file).settings["sack"] is False
     assert came_of("./defaults.sh\nsysctl net.ipv4.tcp_sack=1", file=file).settings["sack"] is True
     found = looked("./defaults.sh", file=file)
-    assert found.dropped_words == found.shared.features == ("metrics of earlier connections",)
+    assert found.words_for_parts_without_setting == found.shared.features == ("metrics of earlier connections",)
     assert [it.what for it in looked("./defaults.sh").reasons] == ["./defaults.sh (No such file or directory)"]
     assert [it.what for it in looked("./defaults.sh", file="./defaults.sh").reasons] == ["./defaults.sh"]
 
@@ -228,7 +233,9 @@ def test_a_comment_of_a_defaults_sh_does_not_go_on_in_the_next_line() -> None:
 def test_a_command_that_is_not_known_counts_in_set_up_and_is_dropped_in_the_midst() -> None:
     assert [it.words for it in looked("modprobe x").reasons] == ["a command of set-up"]
     assert looked("modprobe x", CommandPlace.MIDST).reasons == ()
-    assert looked("modprobe x", CommandPlace.MIDST).dropped_words == ("commands, which are never run",)
+    assert looked("modprobe x", CommandPlace.MIDST).words_for_parts_without_setting == (
+        "commands, which are never run",
+    )
 
 
 @pytest.mark.parametrize(

@@ -18,8 +18,8 @@ from pdsuite.search.candidates import CandidateLists
 from pdsuite.search.coverage import SHARES, Coverage, parse_state_pattern_if_valid
 from pdsuite.search.find import DiffersTest, FailsTest, ReachesTest, script_without_trace
 from pdsuite.search.generate import KEYS, scenario_lists_of_sizes
-from pdsuite.search.inputs import Input, Inputs, make_call, make_dataless_inbound_packet
-from pdsuite.search.oracle import ConfiguredScript, build_trees_and_open_oracles
+from pdsuite.search.inputs import Input, Inputs, make_dataless_inbound_packet, make_unrecorded_call
+from pdsuite.search.oracle import ConfiguredScript, open_oracles_building_missing_programs
 from pdsuite.search.peer import Peer
 from pdsuite.search.scenario import Ending, Handshake, IrregularPacket, Irregularity, Network, PlannedCall, ReceiverPlan
 from pdsuite.search.scenario import Scenario
@@ -145,14 +145,14 @@ def test_inputs_come_under_each_rule_of_the_sender_that_settings_turn_on_or_off(
 
 
 def test_what_is_recorded_is_saved_without_states() -> None:
-    (recording,) = Toy().record_inputs_or_scripts([Inputs((), (Input(0, make_call("listen", 3, 1)),))])
+    (recording,) = Toy().record_inputs_or_scripts([Inputs((), (Input(0, make_unrecorded_call("listen", 3, 1)),))])
     assert script_without_trace(recording.text) == b"--tolerance_usecs=0\n+0 listen(3, 1) = 0\n"
 
 
 def test_times_count_from_the_input_before() -> None:
     events = (
         Input(100_000, make_dataless_inbound_packet("S", 0, None, 9, (TcpOption("sackOK"),))),
-        Input(350_001, make_call("close", 4)),
+        Input(350_001, make_unrecorded_call("close", 4)),
     )
     script = Inputs((("mss", 536),), events, is_exact=False).script_octets()
     assert script == b"+0.1 < S 0:0(0) win 9 <sackOK>\n+0.250001 close(4) = 0\n"
@@ -198,7 +198,7 @@ def test_a_peer_may_tell_each_segment_as_a_block_of_its_own() -> None:
 
 def test_packets_that_are_lost_come_to_no_peer_and_late_ones_later() -> None:
     network = Network(100_000, lost=frozenset((0,)), late={1: 30_000})
-    write = (PlannedCall(0, make_call("write", 4, "...", 2_000)),)
+    write = (PlannedCall(0, make_unrecorded_call("write", 4, "...", 2_000)),)
     acts = Scenario((), Handshake((), 1_000, 100_000), network, ReceiverPlan(), write, (), Ending.NONE, 6)
     (played,) = play_input_steps_in_joint_recordings([play_scenario(acts)], Toy())
     acks = [(it.at, it.what.ack) for it in played.inputs.events if isinstance(it.what, Packet)][2:]
@@ -312,14 +312,17 @@ def unproved(tree: Tree, monkeypatch: pytest.MonkeyPatch) -> Sender:
 
 
 def test_a_tree_that_is_not_proved_is_built_once(tree: Tree, unproved: Sender) -> None:
-    inputs = [Inputs((("mss", size),), (Input(0, make_call("listen", 3, 1)),)) for size in (536, 536, 1_000)]
+    inputs = [Inputs((("mss", size),), (Input(0, make_unrecorded_call("listen", 3, 1)),)) for size in (536, 536, 1_000)]
     refused = Inputs((), (Input(0, make_dataless_inbound_packet("S", 0, None, 9)),))
-    with Stop(()) as stop, build_trees_and_open_oracles([unproved], stop) as (oracle,):
+    with Stop(()) as stop, open_oracles_building_missing_programs([unproved], stop) as (oracle,):
         recordings = oracle.record_inputs_or_scripts([*inputs, refused])
         scripts = [ConfiguredScript(it.settings, script_without_trace(one.text)) for it, one in zip(inputs, recordings)]
         wrong = ConfiguredScript((), b"+0 listen(3, 1) = 7\n")
         rows = oracle.run_scripts_for_rows([*scripts, wrong])
         reported = oracle.explanation_lines_of_script(wrong)
+        oracle.require_that_rules_are_listed()
+        rules = oracle.list_rules_of_scripts([scripts[0], ConfiguredScript((), b"+0 close(3) = 0\n")])
+    assert rules == [{2: ("rfc9293.state.listen",)}, {}]
     assert [bool(it.text) for it in recordings] == [True, True, True, False]
     assert [str(it) for it in rows] == ["pass 1", "pass 1", "pass 1", "fail seq"] and reported == ["fail seq: so it is"]
     assert tree.builds() == 1
@@ -327,7 +330,7 @@ def test_a_tree_that_is_not_proved_is_built_once(tree: Tree, unproved: Sender) -
 
 def test_where_programs_end_on_a_start_others_of_the_same_build_go_on(tree: Tree, unproved: Sender) -> None:
     texts = [b"+0 listen(3, 1) = 0\n", b"+0 abort() = 0\n", b"+0 listen(3, 1) = 0\n"]
-    with Stop(()) as stop, build_trees_and_open_oracles([unproved], stop) as (oracle,):
+    with Stop(()) as stop, open_oracles_building_missing_programs([unproved], stop) as (oracle,):
         rows = oracle.run_scripts_for_rows([ConfiguredScript((), it) for it in texts])
     assert [str(it) for it in rows] == ["pass 1", "error: the programs ended on it", "pass 1"]
     assert tree.builds() == 1
@@ -336,7 +339,7 @@ def test_where_programs_end_on_a_start_others_of_the_same_build_go_on(tree: Tree
 def test_a_tree_that_does_not_compile_is_told_with_its_errors(tree: Tree, unproved: Sender) -> None:
     (tree.top / "crates/pdregress/src/main.rt").touch()
     with Stop(()) as stop, pytest.raises(BuildError, match="unproved: NotCompiled: .*\n.*wrong"):
-        with build_trees_and_open_oracles([unproved], stop):
+        with open_oracles_building_missing_programs([unproved], stop):
             pass
 
 
@@ -359,7 +362,8 @@ def test_a_state_is_searched_for_with_one_sender(tree: Tree) -> None:
     [
         (("compare",), "Missing argument 'PATHS...', or --search"),
         (("compare", "--search", "1", "suite"), "--search makes scripts, and takes no PATH or --only"),
-        (("compare", "--search", "1", "--json"), "without --html, --json, --markdown and --affected"),
+        (("compare", "--search", "1", "--json"), "without --html, --json, --markdown, --affected and --rules"),
+        (("compare", "--search", "1", "--rules"), "without --html, --json, --markdown, --affected and --rules"),
         (("compare", "--seed", "1", "suite"), "--seed and --save are of --search"),
         (("search", "--for", "CLOSING"), "--for: CLOSING: no facts as NAME:VALUE"),
         (("search", "--for", "una:1", "--save", "x"), "--save: x: no name of a script"),

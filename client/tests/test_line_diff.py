@@ -10,7 +10,7 @@ from pdsuite.packetdrill.columns import Mark
 from pdsuite.programs.recorder import Recording
 from pdsuite.programs.verdict import Row, Verdict
 from pdsuite.reports.diff_text import line_diff_json_list_or_fault, line_diff_lines
-from pdsuite.run.line_diff import LineDiff, line_diff_or_recording_fault
+from pdsuite.run.line_diff import LineDiff, line_diff_from_recording_or_its_fault
 from tests.helpers import OPENED, Call, write
 
 STATE = "ESTABLISHED una:1"
@@ -28,7 +28,7 @@ WRITE = "+0 write(4, ..., 1000) = 1000"
 def met(script: str, row: Row, *recorded: tuple[str, str], block_lines: tuple[str, ...] = ()) -> LineDiff:
     """The line diff of a script after the opening, where these events were recorded, each at its moment."""
     text = OPENED_RECORDED + "".join(f"{line}\n//= at {at} {STATE}\n" for line, at in recorded)
-    return line_diff_or_recording_fault(row, block_lines, OPENED.decode() + script, Recording(text), ())
+    return line_diff_from_recording_or_its_fault(row, block_lines, OPENED.decode() + script, Recording(text), ())
 
 
 def shown(differences: LineDiff) -> list[str]:
@@ -161,7 +161,7 @@ def test_the_last_tolerance_of_a_header_counts() -> None:
 
 
 def test_what_is_not_recorded_says_why() -> None:
-    found = line_diff_or_recording_fault(
+    found = line_diff_from_recording_or_its_fault(
         Row(Verdict.FAIL, 1, "result"), (), OPENED.decode(), Recording("", "a.pkt:9: it ends"), ()
     )
     assert list(line_diff_lines(found)) == ["line by line: not known, since it isn't recorded: a.pkt:9: it ends"]

@@ -36,7 +36,7 @@ class PassingProgram:
     def __exit__(self, *why: object) -> None:
         ...
 
-    def query(self, commands: bytes, most: int) -> bytes:
+    def query_answer_regardless_of_errors(self, commands: bytes, most: int) -> bytes:
         self.queries.append(commands)
         for words in (line.split() for line in commands.split(b"\n")):
             if words[:1] == [b"add"]:
@@ -49,7 +49,7 @@ class PassingProgram:
 
     def query_with_errors(self, commands: bytes, most: int, most_errors: int) -> tuple[bytes, bytes]:
         before = list(self.names)
-        answer = self.query(commands, most)
+        answer = self.query_answer_regardless_of_errors(commands, most)
         ran = self.names if b"\nset " in b"\n" + commands else [it for it in self.names if it not in before]
         errors = (b'job 1 %b steps 3\n{"name": "%b", "line": 1, "verdict": "pass"}\n' % (it, it) for it in ran)
         return answer, b"".join(errors)
@@ -79,7 +79,7 @@ def test_an_act_is_recorded_with_the_start_and_the_end_of_each_job_that_it_leads
 def test_an_answer_is_found_however_reads_cut_it(octets: int, monkeypatch: pytest.MonkeyPatch) -> None:
     monkeypatch.setattr(programs, "_READ", octets)
     with Stop() as stop, StartedProgram(["sh", "-c", "read line; printf 'a total 1\ntotal 1\n'"], stop) as program:
-        assert program.query(b"settle\n", 1_000) == b"a total 1\ntotal 1\n"
+        assert program.query_answer_regardless_of_errors(b"settle\n", 1_000) == b"a total 1\ntotal 1\n"
 
 
 @pytest.mark.parametrize(
@@ -90,7 +90,7 @@ def test_what_is_told_of_a_job_is_no_reason_for_which_a_program_ended(said: str,
     script_words = f"{{ {said}; {jobs}; }} >&2; exit 3"
     with Stop() as stop, StartedProgram(["sh", "-c", script_words], stop) as program:
         with pytest.raises(ProgramEndedError, match=f"^{reason}$"):
-            program.query(b"settle\n", 1_000)
+            program.query_answer_regardless_of_errors(b"settle\n", 1_000)
 
 
 def test_what_is_told_stays_until_its_script_runs_again_or_goes() -> None:
@@ -110,7 +110,7 @@ def test_a_program_that_says_what_nobody_asked_is_at_an_end() -> None:
     total = "total 0 pass 0 fail 0 syntax 0 unsupported 0 limit 0 pending 0"
     script_words = f"read line; echo {total}; sleep 0.3; echo x; sleep 20"
     with Stop() as stop, StartedProgram(["sh", "-c", script_words], stop) as program:
-        assert program.query(b"settle\n", 1_000) == f"{total}\n".encode()
+        assert program.query_answer_regardless_of_errors(b"settle\n", 1_000) == f"{total}\n".encode()
         with pytest.raises(ProgramEndedError, match="sh answered more than was asked"):
             while select.select([program.fileno()], [], [], HANGS)[0]:
                 program.require_alive_and_silent()

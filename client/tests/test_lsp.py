@@ -16,6 +16,8 @@ from tests.helpers import HANGS, is_alive
 from tests.lsp_client import Json, LspClient, RequestRefusedError, span
 from tests.lsp_scripts import HEAD, PASSES, WRITES
 
+NEW_DATA = "new data (RFC 9293, section 3.8.6.2.1)"
+
 
 def marked(client: LspClient, uri: str, found: Json) -> str:
     """The text that a diagnostic marks."""
@@ -61,7 +63,7 @@ def test_what_was_sent_stands_in_the_diagnostic(client: LspClient, workspace: Pa
     (found,) = client.settled(uri)
     assert found["message"].splitlines() == [
         "fail seq: the packet has other octets",
-        "actual packet: +0 > P. 1:1001(1000) ack 1 win 511 // 0.200000, sent by line 8",
+        f"actual packet: +0 > P. 1:1001(1000) ack 1 win 511 // 0.200000, sent by line 8: {NEW_DATA}",
     ]
 
 
@@ -92,7 +94,8 @@ def test_untaken_packets_stand_where_they_left(client: LspClient, workspace: Pat
     (found,) = client.settled(client.open(workspace / "a.pkt", text))
     reported = [(it["location"]["range"]["start"]["line"], it["message"]) for it in found["relatedInformation"]]
     assert [line for line, _ in reported] == [7, 7, 8, 9][: len(reported)] and len(reported) >= 3
-    assert reported[0][1].startswith("untaken packet: * > . 1:1001(1000) ack 1 win 511")
+    packet = "* > . 1:1001(1000) ack 1 win 511 // 0.200000"
+    assert reported[0][1] == f"untaken packet: {packet}, sent by line 8: {NEW_DATA}"
 
 
 def test_a_text_that_is_open_counts_in_place_of_its_file(client: LspClient, workspace: Path) -> None:

@@ -63,11 +63,12 @@ def test_the_documents_have_each_key_call_and_field() -> None:
         assert doc_lookup.doc_of_call(call).startswith(f"`{call}(")
     assert doc_lookup.doc_of_call("setsockopt").count("`setsockopt(") == 2
     assert all(
-        doc_lookup.doc_of_packet_or_header_field(it) for it in ("flags", "seq", "ack", "win", "options", "header")
+        doc_lookup.doc_of_packet_field_or_script_header(it)
+        for it in ("flags", "seq", "ack", "win", "options", "header")
     )
     assert (
         doc_lookup.doc_of_call("connect")
-        == doc_lookup.doc_of_packet_or_header_field("time")
+        == doc_lookup.doc_of_packet_field_or_script_header("time")
         == doc_lookup.doc_of_setting("root")
         == ""
     )

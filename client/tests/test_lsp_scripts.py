@@ -4,12 +4,12 @@ from typing import Any
 
 import pytest
 
-from pdsuite.lsp.actions import CodeAction, FailingScript, minimal_whole_line_edits_to_text, leads_past_failing_line
+from pdsuite.lsp.actions import CodeAction, FailingScript, single_whole_line_edit_to_text, leads_past_failing_line
 from pdsuite.lsp.actions import (
     actions_taking_actual_packet_or_result,
     commenting_out_actions,
     record_all_actions,
-    record_from_here_actions,
+    actions_recording_from_failing_event_on,
 )
 from pdsuite.lsp.diagnostics import Diagnostic, diagnostics_of, with_unmatched_packets
 from pdsuite.lsp.documents import Document
@@ -18,14 +18,14 @@ from pdsuite.lsp.packets_sent import event_lines_for_packets, parse_sent_packet,
 from pdsuite.lsp.positions import DocumentLines
 from pdsuite.packetdrill.layout import layout_of
 from pdsuite.packetdrill.recorded import (
-    last_input_before_moment,
+    last_script_input_due_before_moment,
     match_events,
     recorded_events_in,
     strip_trace,
     tolerance_from_header_or_settings,
 )
 from pdsuite.programs.verdict import Row, Verdict
-from pdsuite.run.locate_row import character_index_at_shown_column
+from pdsuite.run.locate_row import character_index_at_escaped_line_column
 from pdsuite.run.outcomes import ScriptOutcome
 from pdsuite.scripts.expectation import Expectation
 
@@ -227,7 +227,18 @@ def test_an_untaken_packet_left_after_the_input_that_sent_it_or_the_last_one_bef
         (3, "untaken packet: c"),
         (6, "untaken packet: d"),
     ]
-    assert last_input_before_moment(layout.packets_and_calls, 1) is layout.packets_and_calls[0]
+    assert last_script_input_due_before_moment(layout.packets_and_calls, 1) is layout.packets_and_calls[0]
+
+
+def test_an_untaken_packet_has_the_rule_by_which_it_left_and_with_it_what_sent_it() -> None:
+    layout = layout_of(SCRIPT)
+    sent = [{"line": 3, "rule": "x", "rule_words": "old (RFC 1)"}, {"timer_us": 9, "rule": "y", "rule_words": "new"}]
+    cause = {"untaken_packets": ["a", "b"], "untaken_sent_by": sent}
+    found = with_unmatched_packets(Diagnostic(layout.packets_and_calls[0].extent, 1, "", ""), layout, cause).related
+    assert [it.message for it in found] == [
+        "untaken packet: a, sent by line 3: old (RFC 1)",
+        "untaken packet: b, sent by the timer: new",
+    ]
 
 
 def test_hover_says_what_the_timer_sent() -> None:
@@ -259,8 +270,10 @@ def test_hover_has_what_changed() -> None:
 def test_a_script_is_recorded_from_a_line_on() -> None:
     row = Row(Verdict.FAIL, 5, "missing")
     packet = "+0.1 > P. 1:2(1) ack 1"
-    each = list(record_from_here_actions(failing(SCRIPT, row, script_packet=packet), RECORDING))
-    returned = record_from_here_actions(failing(SCRIPT.replace("\n", "\r\n"), row, script_packet=packet), RECORDING)
+    each = list(actions_recording_from_failing_event_on(failing(SCRIPT, row, script_packet=packet), RECORDING))
+    returned = actions_recording_from_failing_event_on(
+        failing(SCRIPT.replace("\n", "\r\n"), row, script_packet=packet), RECORDING
+    )
     assert [it.text for it in returned] == [it.text.replace("\n", "\r\n") for it in each]
     front = "".join(SCRIPT.splitlines(keepends=True)[:4])
     assert each[0].text == front + "+0.1 close(4) = 0\n+0 > F. 1501:1501(0) ack 1 win 511\n"
@@ -276,15 +289,15 @@ def test_packets_that_wait_come_first_in_a_recording_from_a_line_on() -> None:
     recording = RECORDING.replace(
         "+0.1 < . 1:1(0) ack 1001 win 257\n//= at 0.100000 ESTABLISHED una:1001 next:1501 cwnd:5000\n", ""
     )
-    each = list(record_from_here_actions(failing(text, row, call="+0.1 close(4) = 1"), recording))
+    each = list(actions_recording_from_failing_event_on(failing(text, row, call="+0.1 close(4) = 1"), recording))
     assert each[0].text.startswith("0 write(4, ..., 1500) = 1500 // two\n+0 > . 1:1001(1000)")
 
 
 def test_nothing_is_recorded_from_the_first_event_on() -> None:
     row = Row(Verdict.FAIL, 1, "result")
-    assert list(record_from_here_actions(failing(SCRIPT, row), RECORDING)) == []
+    assert list(actions_recording_from_failing_event_on(failing(SCRIPT, row), RECORDING)) == []
     assert (
-        list(record_from_here_actions(failing(SCRIPT, row), ""))
+        list(actions_recording_from_failing_event_on(failing(SCRIPT, row), ""))
         == list(record_all_actions(failing(SCRIPT, row), ""))
         == []
     )
@@ -304,21 +317,31 @@ def test_nothing_is_recorded_from_the_first_event_on() -> None:
     ],
 )
 def test_an_edit_makes_the_other_text(old: str, new: str) -> None:
-    (edit,) = minimal_whole_line_edits_to_text(DocumentLines(old), new)
+    (edit,) = single_whole_line_edit_to_text(DocumentLines(old), new)
     assert Document("", 1, old).with_changes(2, [{"range": edit["range"], "text": edit["newText"]}]).text == new
     assert edit["range"]["start"]["character"] == 0
 
 
 def test_a_shown_column_is_a_character() -> None:
-    assert character_index_at_shown_column("\udcff\ud800x", 16) == 2
-    assert [character_index_at_shown_column("\tab\u00e4c", it) for it in (0, 4, 5, 6, 14, 99)] == [0, 1, 2, 3, 4, 5]
+    assert character_index_at_escaped_line_column("\udcff\ud800x", 16) == 2
+    assert [character_index_at_escaped_line_column("\tab\u00e4c", it) for it in (0, 4, 5, 6, 14, 99)] == [
+        0,
+        1,
+        2,
+        3,
+        4,
+        5,
+    ]
 
 
-def test_a_diagnostic_says_what_sent_a_packet_and_what_was_dropped() -> None:
+def test_a_diagnostic_says_what_sent_a_packet_by_which_rule_and_what_was_dropped() -> None:
     text = "0 a() = 1\n"
     seq = ScriptOutcome("a", (), Row(Verdict.FAIL, 1, "seq"))
     (found,) = diagnostics_of(seq, {"actual_packet": "x", "sent_by": {"line": 8}}, layout_of(text), DocumentLines(text))
     assert found.message == "fail seq\nactual packet: x, sent by line 8"
+    sent = {"actual_packet": "x", "sent_by": {"timer_us": 8, "rule": "y", "rule_words": "rescue (RFC 1)"}}
+    (found,) = diagnostics_of(seq, sent, layout_of(text), DocumentLines(text))
+    assert found.message == "fail seq\nactual packet: x, sent by the timer: rescue (RFC 1)"
     dropped = [{"line": 5, "rule": "old_ack", "rule_words": "its ACK lies below una"}]
     missing = ScriptOutcome("a", (), Row(Verdict.FAIL, 1, "missing"))
     (found,) = diagnostics_of(missing, {"dropped_segments": dropped}, layout_of(text), DocumentLines(text))

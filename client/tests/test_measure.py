@@ -128,7 +128,7 @@ def test_verdicts_hold_together_as_holm_has_it() -> None:
 
 def test_a_report_has_a_title_each_figure_and_totals() -> None:
     report = MeasureReport([table([2_000.0] * 20, [1_000.0] * 20)], ("one", "other"), 7, 40, 1.5, True)
-    first, *rows, counts, total = plain_report(report).plain.splitlines()
+    first, *rows, counts, total = plain_report(report).text_without_styles.splitlines()
     assert first == "road, 1,000 octets: 20 runs" and len(rows) == len(FIGURES)
     assert rows[0].startswith(
         "  time to deliver, median           2.000 ms  1.000 ms  -1.000 ms  (-1.000 ms to -1.000 ms)"
@@ -166,13 +166,15 @@ def test_a_narrow_terminal_has_the_numbers_of_a_figure_below_it() -> None:
     slow = [draw.gauss(200_000_000, 20_000_000) for _ in range(40)]
     tables = [table(slow, [it - draw.gauss(10_000_000, 9_000_000) for it in slow])]
     broken = replace(tables[0], measured=replace(tables[0].measured, unfinished=("run 7, before: " + "because " * 20,)))
-    report = plain_report(MeasureReport([broken], ("one", "other"), 7, 80, 1.5, True), 79).plain.splitlines()
+    report = plain_report(
+        MeasureReport([broken], ("one", "other"), 7, 80, 1.5, True), 79
+    ).text_without_styles.splitlines()
     assert max(map(len, report)) <= 79
     assert report[1] == f"  {'time to deliver, median':34}better"
     assert report[2].startswith("    20") and report[3].startswith("    (-") and report[3].endswith(" ms)")
     assert "    0.00  0.00  +0.00  (+0.00 to +0.00)" in report
     assert (
-        plain_report(MeasureReport(tables, ("one", "other"), 7, 80, 1.5, True), 200).plain.count("\n")
+        plain_report(MeasureReport(tables, ("one", "other"), 7, 80, 1.5, True), 200).text_without_styles.count("\n")
         == len(FIGURES) + 3
     )
 
@@ -219,7 +221,7 @@ def test_a_transfer_that_comes_to_no_end_is_told_and_counts_on_neither_side(prog
     assert broken.pairs == () and len(broken.unfinished) == 2 and len(whole.pairs) == 1
     report = plain_report(
         MeasureReport(figure_tables_with_holm_verdicts(found.cases), ("one", "other"), 1, 2, 0.0, False)
-    ).plain
+    ).text_without_styles
     assert "not played: run 0, before: its packets don't fit into a script" in report and ", and 1 more" in report
 
 

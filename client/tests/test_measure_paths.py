@@ -149,7 +149,7 @@ def test_packets_leave_at_the_rate_and_wait_for_one_another() -> None:
         CarriedPacket(PacketFate.ARRIVES, 12_000, 1_000_000),
         CarriedPacket(PacketFate.ARRIVES, 13_000, 2_000_000),
     ]
-    assert link.earliest_arrival(0) == 13_041
+    assert link.earliest_arrival_if_leaving_at_or_after(0) == 13_041
 
 
 def test_the_queue_holds_so_many_octets_beside_the_packet_that_leaves() -> None:
@@ -175,7 +175,7 @@ def test_nothing_arrives_before_what_the_link_says_is_the_earliest() -> None:
     at = 0
     for _ in range(500):
         at += draw.choice((0, 1, 700, 5_000))
-        earliest = link.earliest_arrival(at)
+        earliest = link.earliest_arrival_if_leaving_at_or_after(at)
         carried = link.carry_packet(at, draw.choice((HEADER + 1, 700, 1_500)))
         assert not carried.arrives or carried.at >= earliest
 

@@ -215,7 +215,7 @@ def test_pdrecord_gives_the_same_packets(recording_programs: Path) -> None:
 class OneMoment(Transfer):
     """The same transfer, plainly: each time the sender is queried after the inputs of one moment."""
 
-    def earliest_arrival_at_peer(self, first: int) -> int:
+    def earliest_peer_arrival_if_sent_at_or_after(self, first: int) -> int:
         return first + 1 - self._path.delay_us
 
 

@@ -1,7 +1,7 @@
 """Variations of inputs: where they are varied, and what is put in more often where the change is about it."""
 
 from pdsuite.packetdrill.items import Call, Packet
-from pdsuite.search.inputs import Input, Inputs, make_call, make_dataless_inbound_packet
+from pdsuite.search.inputs import Input, Inputs, make_dataless_inbound_packet, make_unrecorded_call
 from pdsuite.search.mutate import CorpusEntry, InputMutator
 from pdsuite.search.scenario import Emphasis, Theme
 from pdsuite.search.states import TracedState
@@ -34,7 +34,7 @@ def test_half_of_the_variations_are_where_the_sender_recovers() -> None:
 def test_a_theme_has_more_of_what_it_is_about() -> None:
     def closes(theme: Theme | None) -> float:
         found = made(theme)
-        return sum(it == make_call("close", 4) for it in found) / len(found)
+        return sum(it == make_unrecorded_call("close", 4) for it in found) / len(found)
 
     assert closes(Theme.CLOSE) > 2 * closes(None) > 0
 

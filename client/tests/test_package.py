@@ -14,7 +14,20 @@ from tests.helpers import HANGS, PASSES, TOP, Called, write
 from tests.test_run import expected_rows
 
 PROVED = (TOP / "packaging/programs.txt").read_text().split()
-COMMANDS = ("compare", "diff", "expect", "import", "list", "lsp", "measure", "record", "run", "search", "watch")
+COMMANDS = (
+    "compare",
+    "diff",
+    "expect",
+    "import",
+    "list",
+    "lsp",
+    "measure",
+    "record",
+    "rules",
+    "run",
+    "search",
+    "watch",
+)
 # A root with apt alone that keeps the lists of packages, so that these are fetched once and without their translations.
 LEAN = ("--variant=apt", "--skip=cleanup/apt/lists", '--aptopt=Acquire::Languages "none"', "--dpkgopt=force-unsafe-io")
 # Where pages and texts for terminals differ: the ends of lines, blanks, and the prompt of an example.
@@ -30,7 +43,7 @@ def output(*words: str | Path, **more: str) -> str:
 
 def clone_of_tools(folder: Path) -> Path:
     """The tool in a repository of its own, whose commit is tagged as the release."""
-    (folder / "tools").mkdir(parents=True)
+    (folder / "tools").mkdir(parents=True, exist_ok=True)
     shutil.copy(TOP / "tools/package.sh", folder / "tools")
     (folder / "CHANGELOG.md").write_text("# Changelog\n\n## 1.2.3\n\n## 1.2.2\n")
     for words in (["init", "-q"], ["add", "."], ["commit", "-qm", "x"], ["tag", "v1.2.3"]):
@@ -69,6 +82,52 @@ def test_what_is_not_proved_is_not_packed(tmp_path: Path) -> None:
     printed = output(tool, tmp_path, PATH="/usr/bin:/bin:/usr/sbin:/sbin")  # without rt nothing is proved
     assert printed.endswith("package: pdregress isn't proved and built\n")
     assert not list(tmp_path.glob("*.deb"))
+
+
+def tree_whose_program_is_proved(folder: Path) -> Path:
+    """The tool in a repository of its own, with a file of each kind that is packed; any program will do."""
+    stub = "#!/bin/sh\necho {}\n"
+    for name, text in (
+        ("prove", stub.format("")),
+        ("pdsuite", stub.format("")),
+        ("tools/proved_program.sh", stub.format(shutil.which("true"))),
+        ("tools/man_page.sh", stub.format("page")),
+        ("packaging/programs.txt", "true\n"),
+        ("client/packages.txt", "python3-click\n"),
+        ("client/packages-more.txt", (TOP / "client/packages-more.txt").read_text()),
+        *((name, "\n") for name in ("README.md", "client/pdsuite/main.py", "client/editors/vim/syntax/a.vim")),
+        *((name, "\n") for name in ("client/editors/emacs/packetdrill-mode.el", "docs/SUITE.md", "docs/a.png")),
+        *((name, "\n") for name in ("docs/a.json", "examples/in/a b.pkt")),
+    ):
+        (folder / name).parent.mkdir(parents=True, exist_ok=True)
+        (folder / name).write_text(text)
+        (folder / name).chmod(0o755 if text.startswith("#!") else 0o644)
+    shutil.copytree(TOP / "packaging", folder / "packaging", ignore=lambda *_: ["programs.txt"], dirs_exist_ok=True)
+    return clone_of_tools(folder)
+
+
+NOTES = ("client/pdsuite/notes.py", "client/editors/vim/notes.vim", "docs/notes.md", "docs/b.png", "examples/in/b.pkt")
+
+
+@pytest.mark.parametrize("is_checkout", [True, False])
+def test_what_git_does_not_track_is_not_packed(tmp_path: Path, is_checkout: bool) -> None:
+    for name in ("dpkg-deb", "dpkg-shlibdeps", "help2man"):
+        if shutil.which(name) is None:
+            pytest.skip(f"{name} isn't installed")
+    top = tmp_path / "tree"
+    tool = tree_whose_program_is_proved(top)
+    for note in NOTES:
+        (top / note).write_text("\n")
+    if not is_checkout:
+        shutil.rmtree(top / ".git")
+    package = output(tool, tmp_path).strip()
+    assert Path(package).is_file(), package
+    packed = output("dpkg-deb", "-c", package)
+    names = [it for it in packed.split("\n") if it and not it.endswith("/")]
+    for tracked in ("client/pdsuite/main.py", "vim/syntax/a.vim", "docs/SUITE.md", "docs/a.png", "examples/in/a b.pkt"):
+        assert any(it.endswith(f"/{tracked}") for it in names), tracked
+    for note in NOTES:
+        assert any(it.endswith(note.removeprefix("client/editors")) for it in names) != is_checkout, note
 
 
 def test_the_programs_of_a_package_have_no_sources_that_could_change(tmp_path: Path, fake_program: Path) -> None:

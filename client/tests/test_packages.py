@@ -12,7 +12,7 @@ CLIENT = TOP / "client/pdsuite"
 # The lowest first. A module beside the packages knows none of them but the first, and main.py knows all.
 ORDER = (
     *("output", "scripts", "packetdrill", "programs", "imports", "run", "compare", "search", "diagram", "reports"),
-    *("page", "measure", "watch", "lsp", "commands"),
+    *("rules", "page", "measure", "watch", "lsp", "commands"),
 )
 
 

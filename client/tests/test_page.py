@@ -23,6 +23,14 @@ from tests.helpers import FAILS, PASSES, Call, write
 from tests.watch_process import Watching
 
 MARKS = {Mark.NONE: "", Mark.FAILS: "!", Mark.DIFFERS: "?"}
+# The origins of packets, by their words.
+ORIGINS: dict[str, Cause] = {
+    "line 8": {"line": 8},
+    "the timer": {"timer_us": 200_000},
+    "line 8: rescue (RFC 6675)": {"line": 8, "rule": "rfc6675.next-seg.rescue", "rule_words": "rescue (RFC 6675)"},
+    "the timer: an expiry": {"timer_us": 200_000, "rule": "rfc6298.expiry", "rule_words": "an expiry"},
+    r"line 8: \x1b[2J": {"line": 8, "rule": "rfc9293.new-data", "rule_words": "\x1b[2J"},
+}
 
 
 def line(packet: PacketColumns) -> str:
@@ -98,7 +106,7 @@ def test_what_the_program_tells_of_a_missing_packet() -> None:
         "reason_words": "all that was handed over is acknowledged",
         "dropped_segments": [{"line": 1, "rule": "old_ack", "rule_words": "its ACK lies below una"}],
         "untaken_packets": ["+0 > . 1:2(1) ack 1 // 0.1", "+0 > . 2:3(1) ack 1 // 0.1"],
-        "untaken_sent_by": [{"line": 1}, {"timer_us": 100_000}],
+        "untaken_sent_by": [ORIGINS["line 8: rescue (RFC 6675)"], {"timer_us": 100_000}],
         "more_untaken_packets": 2,
         "state": {"name": "ESTABLISHED", "una": 1, "flight_size": 0, "rto_us": 1_500_000, "expiry_us": None},
     }
@@ -112,7 +120,7 @@ def test_what_the_program_tells_of_a_missing_packet() -> None:
         ("dropped", "line 1: its ACK lies below una"),
     ]
     assert view.unmatched == (
-        "+0 > . 1:2(1) ack 1 // 0.1, sent by line 1",
+        "+0 > . 1:2(1) ack 1 // 0.1, sent by line 8: rescue (RFC 6675)",
         "+0 > . 2:3(1) ack 1 // 0.1, sent by the timer",
     )
     assert view.more_unmatched == 2
@@ -126,8 +134,8 @@ def test_what_the_program_tells_of_a_missing_packet() -> None:
     assert [(it.number, it.text, it.is_named) for it in view.lines] == [(1, "one", False), (2, "two", True)]
 
 
-def test_what_sent_a_packet_that_differs() -> None:
-    for origin, words in (({"line": 8}, "line 8"), ({"timer_us": 200_000}, "the timer")):
+def test_what_sent_a_packet_that_differs_and_by_which_rule() -> None:
+    for words, origin in ORIGINS.items():
         view = sheet(Verdict.FAIL, b"one\n", {"sent_by": origin}, 1, "seq")
         assert [(it.name, it.value) for it in view.facts] == [("sent by", words)]
 

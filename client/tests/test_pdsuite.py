@@ -218,6 +218,7 @@ NAMELESS = [
     ("PATHS...", ["run", "a.pkt", ""]),
     ("PATHS...", ["watch", ""]),
     ("PATHS...", ["list", ""]),
+    ("--script", ["rules", "--script", ""]),
     ("FROM", ["import", "", "to"]),
     ("TO", ["import", ".", ""]),
     ("--junit", ["run", ".", "--junit", ""]),

@@ -8,7 +8,7 @@ from pdsuite.search.generate import scenario_lists_of_sizes
 from pdsuite.search.relevance import emphasis_of_changes, script_name_and_comment_of_changed_rule
 from pdsuite.search.scenario import Emphasis, Theme
 from pdsuite.search.search import play_input_steps_in_joint_recordings
-from pdsuite.search.states import parse_state, state_steps_in, states_before_inputs
+from pdsuite.search.states import parse_state, state_steps_in, states_before_inputs_and_at_end
 from tests.test_input_search import Toy
 
 CHANGED = {"name": "restart", "sections": ["RFC 5681, section 4.1"], "changed": ["restart", "u32"], "whole": ["widest"]}
@@ -49,7 +49,7 @@ def drawn(seed: int) -> list[object]:
     """The inputs that are tried in three lists, where all that was played is learnt from."""
     drawing = CandidateLists(seed, [12, 12, 24])
     tried: list[object] = []
-    for games in drawing.input_lists():
+    for games in drawing.input_list_for_each_size():
         played = play_input_steps_in_joint_recordings(games, Toy())
         tried += [it.inputs for it in played]
         drawing.keep_inputs_with_new_steps(played)
@@ -63,8 +63,8 @@ def test_the_same_seed_tries_the_same_inputs_in_the_same_order_variations_too() 
 
 def test_the_state_before_each_input_is_the_one_after_all_that_left_before() -> None:
     played = list(parse_played_events(TRACE))
-    assert [it.fact_as_number_or_default("una") for it in states_before_inputs(played)] == [0, 0, 1, 1001]
-    assert [it.is_open for it in states_before_inputs(played)] == [False, False, True, True]
+    assert [it.fact_as_number_or_default("una") for it in states_before_inputs_and_at_end(played)] == [0, 0, 1, 1001]
+    assert [it.is_open for it in states_before_inputs_and_at_end(played)] == [False, False, True, True]
     assert parse_state(played[1].state).fact_as_number_or_default("cwnd") == 4000
     # A packet that leaves in the same kind of state is no step.
     steps = list(islice(state_steps_in(TRACE), 9))

@@ -3,6 +3,7 @@
 import json
 import shutil
 import signal
+from itertools import cycle, islice, product
 from pathlib import Path
 
 import pytest
@@ -33,9 +34,17 @@ FILES = {
     "a table": ("suite/pdsuite.toml", '# Why.\n["a.pkt"]\nmss = 1000\n{}\n', "suite/pdsuite.toml:4", ' (["a.pkt"])'),
     "a file above": ("pdsuite.toml", "{}\nroot = true\n", "pdsuite.toml:1", ""),
 }
-COMMANDS = ("run", "list", "expect", "record")
+COMMANDS = ("run", "list", "expect", "record", "rules")
+COMPARED = (("a.pkt",), ("--search", "1"))
+SETTINGS_OPTIONS = ("--settings", "--base-settings", "--with-settings")
 
 old = pytest.mark.parametrize(("key", "value", "reason", "helps"), OLD, ids=IDS)
+
+
+def each_with_an_old_name(*places: object) -> list[object]:
+    """The places, and all old names: each place with one of them, and each name at a place, as few as that takes."""
+    number = max(len(places), len(OLD))
+    return [(place, *name) for place, name in islice(zip(cycle(places), cycle(OLD)), number)]
 
 
 @pytest.fixture(scope="module")
@@ -51,12 +60,13 @@ def line_of(key: str, value: Value) -> str:
     return f"{key} = {value_as_toml(value)}"
 
 
-@old
-@pytest.mark.parametrize("place", FILES)
-@pytest.mark.parametrize("command", COMMANDS)
+@pytest.mark.parametrize(
+    ("at_place", "key", "value", "reason", "helps"), each_with_an_old_name(*product(COMMANDS, FILES))
+)
 def test_in_a_file_it_is_refused_with_its_line(
-    command: str, place: str, key: str, value: Value, reason: str, helps: str, both: Path, tmp_path: Path, call: Call
+    at_place: tuple[str, str], key: str, value: Value, reason: str, helps: str, both: Path, tmp_path: Path, call: Call
 ) -> None:
+    command, place = at_place
     file, text, at, beside = FILES[place]
     write(tmp_path / "suite", a=PASSES)
     (tmp_path / file).write_text(text.format(line_of(key, value)))
@@ -64,8 +74,7 @@ def test_in_a_file_it_is_refused_with_its_line(
     assert (called.status, called.out, called.err) == (2, "", f"{at}: {key}: {reason}{beside}: {helps}\n")
 
 
-@old
-@pytest.mark.parametrize("command", (*COMMANDS, "watch"))
+@pytest.mark.parametrize(("command", "key", "value", "reason", "helps"), each_with_an_old_name(*COMMANDS, "watch"))
 def test_as_a_word_it_is_refused(
     command: str, key: str, value: Value, reason: str, helps: str, both: Path, tmp_path: Path, call: Call
 ) -> None:
@@ -74,12 +83,11 @@ def test_as_a_word_it_is_refused(
     assert (called.status, called.out, called.err) == (2, "", f"--settings: {key}: {reason}: {helps}\n")
 
 
-@old
-@pytest.mark.parametrize("word", ("--settings", "--base-settings", "--with-settings"))
-@pytest.mark.parametrize("paths", (("a.pkt",), ("--search", "1")), ids=("compare", "search"))
+@pytest.mark.parametrize(
+    ("asked", "key", "value", "reason", "helps"), each_with_an_old_name(*product(COMPARED, SETTINGS_OPTIONS))
+)
 def test_where_senders_are_compared_it_is_refused(
-    paths: tuple[str, ...],
-    word: str,
+    asked: tuple[tuple[str, ...], str],
     key: str,
     value: Value,
     reason: str,
@@ -88,6 +96,7 @@ def test_where_senders_are_compared_it_is_refused(
     tmp_path: Path,
     call: Call,
 ) -> None:
+    paths, word = asked
     write(tmp_path, a=PASSES)
     shutil.copytree(both, tmp_path / "other")
     senders = ("--base", both, "--with", "other")

@@ -36,7 +36,7 @@ def turned(before: Row | None, now: Row | None) -> RowChange | None:
 def change_of(before: Row | None, now: Row | None) -> tuple[str, bool] | None:
     """How a script turned, and whether that is worse."""
     it = turned(before, now)
-    return None if it is None else (it.kind.value, it.is_worse)
+    return None if it is None else (it.kind.value, it.is_unexpected_failure_or_pass_not_run)
 
 
 @pytest.mark.parametrize("row", [FAILS, *OTHERS], ids=str)
@@ -63,7 +63,32 @@ def test_a_new_script_is_worse_where_it_does_not_pass() -> None:
 @pytest.mark.parametrize(("is_known", "is_worse"), [(True, False), (False, True)])
 def test_a_new_script_that_fails_is_worse_where_that_is_not_expected_of_it(is_known: bool, is_worse: bool) -> None:
     (it,) = row_changes_sorted_by_kind({}, {"a": SavedRow(FAILS, is_known=is_known)})
-    assert (it.kind, it.is_worse) == (RowChangeKind.NEW, is_worse)
+    assert (it.kind, it.is_unexpected_failure_or_pass_not_run) == (RowChangeKind.NEW, is_worse)
+
+
+STRICT = SavedRow(PASSES, is_strict=True)
+
+
+@pytest.mark.parametrize(
+    ("before", "now", "change"),
+    [
+        (SavedRow(PASSES), STRICT, ("passes no more", True)),
+        (STRICT, SavedRow(PASSES), ("passes again", False)),
+        (STRICT, SavedRow(Row(Verdict.PASS, 10), is_strict=True), None),
+        (SavedRow(FAILS), STRICT, ("fails otherwise", True)),
+        (STRICT, SavedRow(FAILS), ("fails otherwise", True)),
+        (None, STRICT, ("new", True)),
+        (STRICT, SavedRow(NOT_RUN), ("not run", False)),
+        # Where a row is expected, that alone decides.
+        (SavedRow(FAILS, is_known=True), SavedRow(PASSES, is_strict=True, is_known=False), ("passes again", False)),
+    ],
+)
+def test_a_script_that_a_strict_warning_makes_fail_does_not_pass(
+    before: SavedRow | None, now: SavedRow, change: tuple[str, bool] | None
+) -> None:
+    each = row_changes_sorted_by_kind({} if before is None else {"a": before}, {"a": now})
+    found = [(it.kind.value, it.is_unexpected_failure_or_pass_not_run) for it in each]
+    assert found == ([] if change is None else [change])
 
 
 def test_a_script_that_went_is_not_worse() -> None:

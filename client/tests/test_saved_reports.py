@@ -35,7 +35,7 @@ def written(outcomes: list[ScriptOutcome], shard: Shard | None = None) -> bytes:
         *entries,
         form.totals_after_scripts(OutcomeTotals.of_outcomes(outcomes), 1.5),
     ]
-    return "".join(it.plain for it in parts).encode()
+    return "".join(it.text_without_styles for it in parts).encode()
 
 
 @pytest.mark.parametrize("row", ROWS, ids=str)

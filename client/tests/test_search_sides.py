@@ -54,8 +54,8 @@ def test_each_side_is_asked_without_the_keys_that_its_sender_lacks() -> None:
     before, after = _side_oracles_without_lacked_keys(oracles, (side("old"), side("new")), common, screen)
     assert sorted(before.side.lacks) == ["early", "mss"] and not after.side.lacks
     assert (
-        before.side.effective_settings((("early", 2), ("late", 3))),
-        after.side.effective_settings((("early", 2),)),
+        before.side.adapted_given_and_own_settings((("early", 2), ("late", 3))),
+        after.side.adapted_given_and_own_settings((("early", 2),)),
     ) == (
         (("late", 3),),
         (("early", 2),),
@@ -69,8 +69,8 @@ def test_a_key_that_a_sender_has_by_its_old_name_has_its_value_there() -> None:
     common = layer_of_option('abc_limit = 2\nrecovery_algorithm = "rfc9937"\nslow_start_after_idle = true')
     old, new = _side_oracles_without_lacked_keys(oracles, (side("old"), side("new")), common, screen)
     given = sorted_settings(common.keys)
-    assert old.side.effective_settings(given) == (("byte_counting", 2), ("recovery_rate", "prr"))
-    assert new.side.effective_settings(given) == given and not new.side.renamed
+    assert old.side.adapted_given_and_own_settings(given) == (("byte_counting", 2), ("recovery_rate", "prr"))
+    assert new.side.adapted_given_and_own_settings(given) == given and not new.side.renamed
     words = '"pipe" for "rfc6675", with "prr" for "rfc9937"'
     assert screen.noted == [
         "pdsuite: old: the setting abc_limit is byte_counting there",
@@ -82,4 +82,4 @@ def test_a_key_that_a_sender_has_by_its_old_name_has_its_value_there() -> None:
 def test_what_its_own_option_sets_comes_before_a_key_by_its_old_name() -> None:
     layer = layer_of_option("byte_counting = 3", "--base-settings")
     renamed = replace(side("old"), option=layer, renamed=frozenset(["abc_limit"]))
-    assert renamed.effective_settings((("abc_limit", 2),)) == (("byte_counting", 3),)
+    assert renamed.adapted_given_and_own_settings((("abc_limit", 2),)) == (("byte_counting", 3),)

@@ -220,8 +220,9 @@ def test_what_a_package_has_is_looked_at_without_a_process(tmp_path: Path) -> No
         (("record", "--write"), "nothing is written"),
         (("expect", "--reason", "so it is"), "nothing is written"),
         (("compare", "--base", "base"), "compare again"),
+        (("rules",), "list the rules again"),
     ],
-    ids=["run", "record", "expect", "compare"],
+    ids=["run", "record", "expect", "compare", "rules"],
 )
 def test_a_sender_that_changes_in_the_midst_is_said_and_the_status_is_2(
     words: tuple[str, ...], message: str, tree: Tree

@@ -10,7 +10,7 @@ import pytest
 from pdsuite.faults import Fault
 from pdsuite.scripts.config import Claim, SuiteConfig, layer_of_option, parse_layer
 from pdsuite.scripts.discover import find_scripts
-from pdsuite.scripts.settings import Settings, Value, set_command_words, settings_as_toml
+from pdsuite.scripts.settings import Settings, Value, set_command_words_or_placeholders, settings_as_toml
 from pdsuite.signals import Stop
 
 VALUES: list[tuple[Value, str]] = [
@@ -36,12 +36,12 @@ VALUES: list[tuple[Value, str]] = [
 
 @pytest.mark.parametrize(("value", "word"), VALUES)
 def test_a_value_is_one_word_or_one_that_no_key_takes(value: Value, word: str) -> None:
-    assert set_command_words("mss", value) == ("mss", word)
+    assert set_command_words_or_placeholders("mss", value) == ("mss", word)
 
 
 @pytest.mark.parametrize("key", ["", "a b", "a\nb", "ü", "x" * 65])
 def test_a_key_that_is_no_word_becomes_one_that_is_no_key(key: str) -> None:
-    assert set_command_words(key, 1) == ("?", "1")
+    assert set_command_words_or_placeholders(key, 1) == ("?", "1")
 
 
 def test_a_settings_text_is_toml() -> None:

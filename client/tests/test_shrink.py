@@ -11,12 +11,12 @@ from pdsuite.programs.recorder import Recording
 from pdsuite.programs.verdict import Row
 from pdsuite.search.continuations import continued_inputs_of_find
 from pdsuite.search.find import Find
-from pdsuite.search.inputs import Input, Inputs, make_call, make_dataless_inbound_packet
+from pdsuite.search.inputs import Input, Inputs, make_dataless_inbound_packet, make_unrecorded_call
 from pdsuite.search.oracle import ConfiguredScript
 from pdsuite.search.shrink import shrink_find
 from pdsuite.search.simulate import LONGEST_GAP, LONG_GAPS, TICK
 
-WRITE = make_call("write", 4, "...", 3_000)
+WRITE = make_unrecorded_call("write", 4, "...", 3_000)
 ACK = make_dataless_inbound_packet(".", 1, 1, 1_000)
 RECORDED = (
     "+0 > P. 1:1001(1000) ack 1\n//= at 0.000000 ESTABLISHED una:1 next:1001 top:1001\n"
@@ -73,11 +73,11 @@ def test_what_follows_a_shorter_gap_moves_along() -> None:
 @pytest.mark.parametrize(
     ("what", "is_good", "wanted"),
     [
-        (WRITE, lambda it: True, make_call("write", 4, "...", 1)),
+        (WRITE, lambda it: True, make_unrecorded_call("write", 4, "...", 1)),
         (
-            make_call("write", 4, "...", 3_456),
+            make_unrecorded_call("write", 4, "...", 3_456),
             lambda it: int(it.arguments[-1]) >= 1_500,
-            make_call("write", 4, "...", 2_000),
+            make_unrecorded_call("write", 4, "...", 2_000),
         ),
         (make_dataless_inbound_packet("F.", 1, 1, 257), lambda it: True, make_dataless_inbound_packet(".", 1, 1, 257)),
         (
@@ -115,7 +115,8 @@ def test_a_whole_round_goes_with_the_numbers_that_it_moved() -> None:
 
 
 @pytest.mark.parametrize(
-    ("last", "least_last"), [("write", make_call("write", 4, "...", 1)), ("close", make_call("close", 4))]
+    ("last", "least_last"),
+    [("write", make_unrecorded_call("write", 4, "...", 1)), ("close", make_unrecorded_call("close", 4))],
 )
 def test_another_call_shows_sooner_what_waits_show(last: str, least_last: Call) -> None:
     """Five waits show a find, of which none can go; so does a call in their place."""

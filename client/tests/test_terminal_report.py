@@ -67,7 +67,7 @@ def shown(before: Report, after: Report, width: int = 80) -> list[str]:
     text = news.render_changed_and_gone_rows(before, after, moves).append_text(
         news.changed_explanations(before, after, moves)
     )
-    return text.append_text(news.totals_line(after, 0.01)).plain.splitlines()
+    return text.append_text(news.totals_line(after, 0.01)).text_without_styles.splitlines()
 
 
 def names(count: int, folder: str = "t") -> list[str]:
@@ -75,7 +75,7 @@ def names(count: int, folder: str = "t") -> list[str]:
 
 
 def test_a_state_is_broken_at_blanks_and_a_packet_is_not_broken() -> None:
-    lines = live().first_report(report(FAIL, "a.pkt"), False, 0.01).plain.splitlines()
+    lines = live().first_report(report(FAIL, "a.pkt"), False, 0.01).text_without_styles.splitlines()
     assert lines[0] == "a.pkt:2: fail seq: the packet has other octets"
     assert lines[1] == f"  {PACKET}"
     assert all(len(it) < 80 for it in lines[2:]) and len(lines) == 6
@@ -87,7 +87,7 @@ def test_a_reason_is_broken_at_blanks_and_a_short_line_stays() -> None:
     words = "reason: all that is queued was sent, up to 1001, and only the timer sends the oldest again (RFC 6298)"
     reported = (words, "rule: a command", f"{'x' * 100} y")
     outcome = ScriptOutcome("a.pkt", (), FAIL, None, "so it is", reported)
-    assert live().first_report({"a.pkt": outcome}, False, 0.01).plain.splitlines()[1:-1] == [
+    assert live().first_report({"a.pkt": outcome}, False, 0.01).text_without_styles.splitlines()[1:-1] == [
         "  reason: all that is queued was sent, up to 1001, and only the timer sends the",
         "    oldest again (RFC 6298)",
         "  rule: a command",
@@ -103,7 +103,7 @@ def test_the_states_of_two_senders_are_broken_at_blanks_and_packets_are_not() ->
     lines = (
         live()
         .turned_entries([ComparedScript(0, ComparisonKind.OTHERWISE, outcome, outcome, parting)])
-        .plain.splitlines()
+        .text_without_styles.splitlines()
     )
     assert f"    before: {event}" in lines
     assert lines[-4:] == [
@@ -116,26 +116,31 @@ def test_the_states_of_two_senders_are_broken_at_blanks_and_packets_are_not() ->
 
 def test_totals_have_no_zeros_and_fit() -> None:
     outcomes = report(PASS, *names(123))
-    assert live().totals_line(outcomes, 0.5).plain == "total 123 pass 123 in 0.50 s\n"
+    assert live().totals_line(outcomes, 0.5).text_without_styles == "total 123 pass 123 in 0.50 s\n"
     verdicts: tuple[Verdict, ...] = tuple(Verdict)
     for number, verdict in enumerate(verdicts):
         outcomes |= report(Row(verdict, 1, "seq"), *names(100 + number, verdict.value))
-    assert live().totals_line(outcomes, 0.5).plain.splitlines() == [
+    assert live().totals_line(outcomes, 0.5).text_without_styles.splitlines() == [
         "total 844 pass 223 fail 101 syntax 102 unsupported 103 limit 104 error 105 not",
         "run 106 in 0.50 s",
     ]
-    assert live().totals_line(report(Row(Verdict.PASS, 0), "a.pkt"), 0).plain == "total 1 pass 1 warnings 1 in 0.00 s\n"
+    assert (
+        live().totals_line(report(Row(Verdict.PASS, 0), "a.pkt"), 0).text_without_styles
+        == "total 1 pass 1 warnings 1 in 0.00 s\n"
+    )
 
 
 def test_a_rule_with_the_time_of_day_goes_across() -> None:
-    line = live(60).time_of_day_head_if_any().plain
+    line = live(60).time_of_day_head_if_any().text_without_styles
     assert re.fullmatch(r"\u2500\u2500 \d\d:\d\d:\d\d \u2500{47}\n", line)
 
 
 def test_a_terminal_without_columns_has_a_few() -> None:
     for width in (0, 1, 2):
-        lines = live(width).first_report(report(FAIL, "a.pkt"), False, 0.01).plain.splitlines()
-        assert lines[2] == "  state: ESTABLISHED" and len(live(width).time_of_day_head_if_any().plain) == 21
+        lines = live(width).first_report(report(FAIL, "a.pkt"), False, 0.01).text_without_styles.splitlines()
+        assert (
+            lines[2] == "  state: ESTABLISHED" and len(live(width).time_of_day_head_if_any().text_without_styles) == 21
+        )
 
 
 def test_of_many_that_turn_ten_are_shown_then_how_many_more_and_the_command() -> None:

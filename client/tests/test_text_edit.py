@@ -5,7 +5,12 @@ import re
 
 import pytest
 
-from pdsuite.scripts.defaults import DEFAULTS, KEYS, has_default_for_each_dropped_setting, settings_changed_between
+from pdsuite.scripts.defaults import (
+    DEFAULTS,
+    KEYS,
+    has_default_for_each_old_key_not_in_new,
+    changed_settings_with_new_values,
+)
 from pdsuite.scripts.settings import Value
 from pdsuite.scripts.text import ScriptText, make_newline_ended_text_within_limits
 from pdsuite.scripts.text_edit import Edit, edit_between
@@ -85,15 +90,15 @@ def _value(word: str) -> Value:
 def test_a_key_that_goes_has_its_default_and_one_that_stays_is_not_set() -> None:
     old = (("mss", 1_000), ("nagle", False), ("sack", True))
     new = (("initial_window", "rfc5681"), ("min_rto_us", 5_000), ("nagle", False))
-    assert list(settings_changed_between(old, new)) == [("min_rto_us", 5_000), ("mss", 1_460)]
+    assert list(changed_settings_with_new_values(old, new)) == [("min_rto_us", 5_000), ("mss", 1_460)]
 
 
 def test_a_key_without_a_known_default_can_be_set_but_not_taken_back() -> None:
     later = (("later", 1),)
-    assert list(settings_changed_between((), later)) == [("later", 1)]
+    assert list(changed_settings_with_new_values((), later)) == [("later", 1)]
     assert (
-        has_default_for_each_dropped_setting((), later)
-        and has_default_for_each_dropped_setting(later, (("later", 2),))
-        and has_default_for_each_dropped_setting((("mss", 9),), later)
+        has_default_for_each_old_key_not_in_new((), later)
+        and has_default_for_each_old_key_not_in_new(later, (("later", 2),))
+        and has_default_for_each_old_key_not_in_new((("mss", 9),), later)
     )
-    assert not has_default_for_each_dropped_setting(later, ())
+    assert not has_default_for_each_old_key_not_in_new(later, ())

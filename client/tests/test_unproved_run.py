@@ -14,12 +14,13 @@ from pdsuite.programs.batch_protocol import (
     answer_from_status,
     batch_input,
     parse_batch_answers_or_faults,
-    split_into_batches,
+    split_into_batches_by_expected_output,
     take_whole_length_prefixed_parts,
 )
 from pdsuite.programs.program import ProgramEndedError
 from pdsuite.programs.protocol import UnexpectedAnswerError
 from pdsuite.programs.refusals import distinct_key_value_pairs, refusals_in_answer
+from pdsuite.programs.unproved_programs import unproved_notice
 from pdsuite.programs.verdict import Row, Verdict
 from pdsuite.run.batches import SuiteScript
 from pdsuite.run.unproved_run import (
@@ -55,6 +56,11 @@ def batch(*texts: bytes) -> StartBatch:
     """The one batch of scripts with these texts."""
     (only,) = runnable_scripts_in_output_sized_batches(loaded(*texts))
     return only
+
+
+def test_the_command_that_proves_is_one_word_for_a_shell(tmp_path: Path, monkeypatch: pytest.MonkeyPatch) -> None:
+    monkeypatch.setattr("pdsuite.programs.unproved_programs.TOP", tmp_path / "a tree")
+    assert unproved_notice(True) == f"unproved: running without proofs; '{tmp_path}/a tree/prove' proves the programs"
 
 
 def test_settings_are_commands_before_the_scripts() -> None:
@@ -137,8 +143,13 @@ def test_a_start_that_ends_by_a_fault_has_no_answer() -> None:
 def test_starts_share_a_run_as_far_as_its_room_goes_but_for_those_that_are_to_be_alone() -> None:
     small, large, alone = Case(("a",), b"x"), Case(("b",), b"y", 500_000), Case(("c",), b"z", is_alone=True)
     cases = [small, small, large, alone, small, large, large]
-    assert list(split_into_batches(cases)) == [[small, small, large], [alone], [small, large], [large]]
-    assert list(split_into_batches([])) == []
+    assert list(split_into_batches_by_expected_output(cases)) == [
+        [small, small, large],
+        [alone],
+        [small, large],
+        [large],
+    ]
+    assert list(split_into_batches_by_expected_output([])) == []
 
 
 def test_a_run_gets_the_words_and_inputs_of_its_starts_and_answers_each() -> None:

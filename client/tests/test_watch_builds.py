@@ -187,7 +187,10 @@ def test_a_base_runs_anew_what_was_edited_since(tmp_path: Path) -> None:
         base = BaseSender((program, None), 1, stop, print)
         for text in (SENDER, b"row fail 1 seq\n"):
             now = ShownScripts({}, {"a.pkt": WantedScript((), make_newline_ended_text_within_limits(text))})
-            rows += [str(it.row.whole_text_without_name) for it in base.shown_or_newly_run_outcomes(now, now).values()]
+            rows += [
+                str(it.row.whole_text_without_name)
+                for it in base.kept_or_new_outcomes_of_same_scripts(now, now).values()
+            ]
     assert rows == ["pass 7", "fail 1 seq"]
 
 

@@ -18,7 +18,7 @@ from pdsuite.watch.watched_files import (
     WatchedFile,
     WatchedFiles,
     has_any_script_changed,
-    read_watched_file_returning_whether_torn,
+    read_watched_file_marking_unclosed_as_torn,
     update_holding_back_gone_and_torn,
 )
 from pdsuite.watch.watched_files import reread_changed_watched_files
@@ -101,7 +101,7 @@ def test_a_file_is_read_again_if_its_inode_size_or_a_time_is_another(tmp_path: P
     path.write_bytes(b"one\n")
     found = ScriptFile(str(path), str(tmp_path), "a.pkt")
     _grow_old()
-    before: WatchedFiles = {found.path: read_watched_file_returning_whether_torn(found, None, True)}
+    before: WatchedFiles = {found.path: read_watched_file_marking_unclosed_as_torn(found, None, True)}
     assert reread_changed_watched_files([found], before, set())[found.path] is before[found.path]
     for save in (_same_size_in_place, _another_inode_with_its_time, _other_rights):
         save(path)
@@ -115,7 +115,7 @@ def test_what_was_written_just_before_it_was_read_is_read_again(tmp_path: Path) 
     path = tmp_path / "a.pkt"
     path.write_bytes(b"one\n")
     found = ScriptFile(str(path), str(tmp_path), "a.pkt")
-    before = {found.path: read_watched_file_returning_whether_torn(found, None, True)}
+    before = {found.path: read_watched_file_marking_unclosed_as_torn(found, None, True)}
     assert before[found.path].file.is_young
     assert reread_changed_watched_files([found], before, set())[found.path] is not before[found.path]
 
@@ -125,9 +125,9 @@ def test_what_was_changed_just_before_it_was_read_is_read_again_whatever_time_it
     path.write_bytes(b"one\n")
     os.utime(path, (0, time.time() - 60))
     found = ScriptFile(str(path), str(tmp_path), "a.pkt")
-    assert read_watched_file_returning_whether_torn(found, None, True).file.is_young
+    assert read_watched_file_marking_unclosed_as_torn(found, None, True).file.is_young
     _grow_old()
-    assert not read_watched_file_returning_whether_torn(found, None, True).file.is_young
+    assert not read_watched_file_marking_unclosed_as_torn(found, None, True).file.is_young
 
 
 @pytest.mark.parametrize("is_known", [True, False])
@@ -135,7 +135,9 @@ def test_what_was_written_a_moment_ago_is_only_taken_once_it_is_closed_or_rests(
     path = tmp_path / "a.pkt"
     path.write_bytes(b"one\n")
     found = ScriptFile(str(path), str(tmp_path), "a.pkt")
-    before: WatchedFiles = {found.path: read_watched_file_returning_whether_torn(found, None, True)} if is_known else {}
+    before: WatchedFiles = (
+        {found.path: read_watched_file_marking_unclosed_as_torn(found, None, True)} if is_known else {}
+    )
     path.write_bytes(b"two\n")
     update = update_holding_back_gone_and_torn(before, reread_changed_watched_files([found], before, set()), {}, 7.0)
     assert update.files == before and update.torn == {found.path}

@@ -13,7 +13,7 @@ from pdsuite.run.batches import SuiteScript
 from pdsuite.run.run_batches import load_script_text_or_fault
 from pdsuite.scripts.config import Claim, SuiteConfig, layer_of_option
 from pdsuite.scripts.discover import find_scripts
-from pdsuite.scripts.settings import Settings, set_command_words
+from pdsuite.scripts.settings import Settings, set_command_words_or_placeholders
 from pdsuite.scripts.text import ScriptText
 from pdsuite.signals import Stop
 from pdsuite.watch.change_report import ChangeReport
@@ -35,7 +35,7 @@ class Paper:
         self.notes: list[str] = []
 
     def show(self, text: StyledText) -> None:
-        self.parts.append(text.plain)
+        self.parts.append(text.text_without_styles)
 
     def print_note_on_stderr(self, line: str) -> None:
         self.notes.append(line)
@@ -46,7 +46,9 @@ class Paper:
 
 def refused(claims: Iterable[Claim]) -> list[str]:
     """The refusal lines of a program that refuses the value 7 for any setting."""
-    return [it.refusal_line("BadValue") for it in claims if set_command_words(it.key, it.value)[1] == "7"]
+    return [
+        it.refusal_line("BadValue") for it in claims if set_command_words_or_placeholders(it.key, it.value)[1] == "7"
+    ]
 
 
 @dataclass

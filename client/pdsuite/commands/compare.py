@@ -17,8 +17,8 @@ from pdsuite.compare.affected import (
 from pdsuite.compare.built_senders import build_missing_programs
 from pdsuite.compare.comparison import ComparedScript, SenderResults, compare_results
 from pdsuite.compare.quantities import Quantity
-from pdsuite.compare.senders import Sender, current_sender, last_proved_sender, resolve_sender
-from pdsuite.compare.sides import Side, SideSettingsError, make_side_named_with_settings
+from pdsuite.compare.senders import Sender
+from pdsuite.compare.sides import SideSettingsError, sides_before_and_after_change
 from pdsuite.compare.two_senders import ComparisonTask, run_both_senders
 from pdsuite.output.fitting import wrap_prose_in_styled_text, columns_without_autowrap
 from pdsuite.output.screen import Screen, print_line_on_stderr
@@ -27,13 +27,14 @@ from pdsuite.programs.lookup import SenderGuard
 from pdsuite.programs.verdict import Verdict
 from pdsuite.reports.comparison import ComparisonReport, comparison_json, plain_comparison
 from pdsuite.reports.comparison_markdown import whole_comparison_as_markdown
-from pdsuite.run.collect import find_selected_scripts_and_read_configs, suite_scripts_with_config
-from pdsuite.scripts.config import BASE_OPTION, WITH_OPTION, SuiteConfig, layer_of_option
+from pdsuite.run.collect import find_selected_script_files_and_read_configs, suite_scripts_with_config
+from pdsuite.scripts.config import SuiteConfig, layer_of_option
 from pdsuite.scripts.unused_tables import unused_table_warning_lines_under_paths
 from pdsuite.signals import Stop, StoppedError
 
 if TYPE_CHECKING:
     from pdsuite.commands.search import SearchOptions
+    from pdsuite.compare.rule_changes import RuleChanges
     from pdsuite.page.comparison import ComparisonPage
 
 _FAULT = 2
@@ -56,6 +57,7 @@ class CompareOptions:
     sort: str = Quantity.TIME
     every: bool = False
     is_markdown: bool = False
+    rules: bool = False
     search: "SearchOptions | None" = None
 
 
@@ -68,18 +70,20 @@ def compare_senders(options: CompareOptions, screen: Screen) -> int:
             if options.search is not None:
                 return _search_input_where_senders_differ(options, options.search, Path(room), stop, screen)
             scripts = suite_scripts_with_config(
-                find_selected_scripts_and_read_configs(options.paths, options.only, suite, stop), suite
+                find_selected_script_files_and_read_configs(options.paths, options.only, suite, stop), suite
             )
             if lines := unused_table_warning_lines_under_paths(suite, options.paths):
                 return _print_errors_always_returning_fault(lines)
             page = None if options.html is None else _comparison_page_in_folder(options.html)
-            sides = _before_and_after_sides_of_options(options, Path(room))
+            sides = sides_before_and_after_change(
+                options.base, options.base_settings, options.other, options.with_settings, Path(room)
+            )
             senders = (sides[0].sender, sides[1].sender)
             _print_senders_and_missing_recorders(senders, screen)
             records = all(it.has_recorder_or_is_unbuilt for it in senders)
             row_starts = query_test_row_starts_of_sender(senders[1], Path(room)) if options.affected else None
-            task = ComparisonTask(scripts, list(suite.all_claims()), records, row_starts)
-            steady = SenderGuard(*(it.program_lookup for it in senders))
+            task = ComparisonTask(scripts, list(suite.all_claims()), records, row_starts, options.rules)
+            steady = SenderGuard(*(it.lookup_of_programs_or_of_unbuilt_tree for it in senders))
             built = zip(sides, build_missing_programs(senders, "any", stop, screen))
             results = run_both_senders(
                 [replace(side, sender=it) for side, it in built],
@@ -108,7 +112,9 @@ def _search_input_where_senders_differ(
     # Only who searches pays for what makes inputs.
     from pdsuite.commands.search import search_difference
 
-    sides = _before_and_after_sides_of_options(options, room)
+    sides = sides_before_and_after_change(
+        options.base, options.base_settings, options.other, options.with_settings, room
+    )
     _print_senders_and_missing_recorders((sides[0].sender, sides[1].sender), screen)
     before, after = (
         it.sender.find_or_check_out_sources(room / f"sources of {it.option.file_or_option_name}") for it in sides
@@ -120,15 +126,6 @@ def _print_errors_always_returning_fault(lines: Sequence[str]) -> int:
     for line in lines:
         print_line_on_stderr(line)
     return _FAULT
-
-
-def _before_and_after_sides_of_options(options: CompareOptions, room: Path) -> tuple[Side, Side]:
-    """The sender before the change, and the one after it; what is checked out goes into a folder."""
-    before = last_proved_sender() if options.base is None else resolve_sender(options.base, "--base", room / "before")
-    after = current_sender() if options.other is None else resolve_sender(options.other, "--with", room / "after")
-    return make_side_named_with_settings(before, options.base_settings, BASE_OPTION), make_side_named_with_settings(
-        after, options.with_settings, WITH_OPTION
-    )
 
 
 def _print_senders_and_missing_recorders(senders: tuple[Sender, Sender], screen: Screen) -> None:
@@ -162,16 +159,17 @@ def _report_comparison_returning_exit_status(
     screen: Screen,
     begin: float,
 ) -> int:
-    """Reports what differs and what is affected, and answers the exit status."""
+    """Reports what differs, rules and what is affected, and answers the exit status."""
     page, affected = more
     before, after = results
     compared = compare_results(before, after)
     is_unproved = not all(it.is_proved for it in senders)
     names = (str(senders[0]), str(senders[1]))
+    rules = _changes_of_reached_rules(compared, (before, after), names) if options.rules else None
     if page is not None:
-        page.write_page_and_remove_stale(compared, (before, after), names, is_unproved)
+        page.write_page_and_remove_stale(compared, (before, after), names, is_unproved, rules)
     seconds = time.monotonic() - begin
-    report = ComparisonReport(compared, affected, seconds, is_unproved, Quantity(options.sort), options.every)
+    report = ComparisonReport(compared, affected, seconds, is_unproved, Quantity(options.sort), options.every, rules)
     if options.is_markdown:
         screen.show(whole_comparison_as_markdown(report, names))
     else:
@@ -180,7 +178,16 @@ def _report_comparison_returning_exit_status(
             if options.is_json
             else _wrap_prose_to_terminal(plain_comparison(report), screen)
         )
-    return _exit_status_of_errors_and_differences(compared, affected)
+    return _exit_status_of_report(report)
+
+
+def _changes_of_reached_rules(
+    compared: Sequence[ComparedScript], results: tuple[SenderResults, SenderResults], names: tuple[str, str]
+) -> "RuleChanges":
+    # Only who requests rules pays for what counts them.
+    from pdsuite.rules.changes import changes_of_reached_rules
+
+    return changes_of_reached_rules(compared, *results, names)
 
 
 def _wrap_prose_to_terminal(text: StyledText, screen: Screen) -> StyledText:
@@ -192,11 +199,12 @@ def _wrap_prose_to_terminal(text: StyledText, screen: Screen) -> StyledText:
     )
 
 
-def _exit_status_of_errors_and_differences(compared: Sequence[ComparedScript], affected: Affected | None) -> int:
-    if any(Verdict.ERROR in (it.before.row.verdict, it.after.row.verdict) for it in compared):
+def _exit_status_of_report(report: ComparisonReport) -> int:
+    if any(Verdict.ERROR in (it.before.row.verdict, it.after.row.verdict) for it in report.compared):
         return _FAULT
-    return (
-        1
-        if any(it.differs for it in compared) or affected is not None and affected.has_affected_or_unanswered_rows
-        else 0
+    differs = (
+        any(it.differs for it in report.compared),
+        report.rules is not None and bool(report.rules.changes),
+        report.affected is not None and report.affected.has_affected_or_unanswered_rows,
     )
+    return 1 if any(differs) else 0

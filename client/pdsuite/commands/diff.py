@@ -8,16 +8,16 @@ from pathlib import Path
 from pdsuite.faults import Fault
 from pdsuite.output.octets import printable_path
 from pdsuite.output.screen import Screen
-from pdsuite.output.styled_text import StyledText, unstyled_text
+from pdsuite.output.styled_text import StyledText, styled_text_of_one_plain_piece
 from pdsuite.reports.report_cache import newest_report_covering
 from pdsuite.reports.row_changes import RowChange, RowChangeKind, row_changes_sorted_by_kind
-from pdsuite.reports.saved_reports import SavedReport, read_reports_as_one
+from pdsuite.reports.saved_reports import SavedReport, SavedRow, read_reports_as_one
 
 _STYLES = {RowChangeKind.AGAIN: "green", RowChangeKind.NEW: "", RowChangeKind.GONE: "dim", RowChangeKind.NOT_RUN: "dim"}
 _WORSE = "bold red"
 
 
-def diff_reports(old: Path, new: Sequence[Path], screen: Screen) -> int:
+def diff_reports_returning_1_if_any_worse(old: Path, new: Sequence[Path], screen: Screen) -> int:
     """Shows what turned, and answers the exit status: 1 where something got worse."""
     before = read_reports_as_one([old])
     if new:
@@ -28,7 +28,7 @@ def diff_reports(old: Path, new: Sequence[Path], screen: Screen) -> int:
     turned = row_changes_sorted_by_kind(before.rows, now.rows)
     same = len({**before.rows, **now.rows}) - len(turned)
     screen.show(_render_row_changes_and_total(turned, same))
-    return 1 if any(it.is_worse for it in turned) else 0
+    return 1 if any(it.is_unexpected_failure_or_pass_not_run for it in turned) else 0
 
 
 def _pair_with_newest_covering_report(before: SavedReport) -> tuple[SavedReport, SavedReport]:
@@ -68,10 +68,16 @@ def _change_line(it: RowChange) -> StyledText:
     """The line of a script: how it turned, its row, and the one that it had before."""
     row = None if it.now is None else it.now.row
     place = it.path if row is None or row.line is None else f"{it.path}:{row.line}"
-    style = _WORSE if it.is_worse else _STYLES.get(it.kind, "")
-    line = unstyled_text(f"{place}: ").append(it.kind, style)
+    style = _WORSE if it.is_unexpected_failure_or_pass_not_run else _STYLES.get(it.kind, "")
+    line = styled_text_of_one_plain_piece(f"{place}: ").append(it.kind, style)
     if row is not None and it.kind is not RowChangeKind.NOT_RUN:
-        line.append(f": {'known: ' if it.now is not None and it.now.is_known else ''}{row}")
+        known = "known: " if it.now is not None and it.now.is_known else ""
+        line.append(f": {known}{row}{_mark_of_strict_warning(it.now)}")
     if it.before is not None and it.kind is not RowChangeKind.NEW:
-        line.append(f", was {it.before.row.whole_text_without_name}")
+        line.append(f", was {it.before.row.whole_text_without_name}{_mark_of_strict_warning(it.before)}")
     return line.append("\n")
+
+
+def _mark_of_strict_warning(saved: SavedRow | None) -> str:
+    """The mark of a row that reads as a pass, where a warning makes its script fail."""
+    return " (strict warning)" if saved is not None and saved.fails_by_strict_warning else ""

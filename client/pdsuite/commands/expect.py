@@ -10,7 +10,7 @@ from pdsuite.files import write_file_atomically
 from pdsuite.imports.tables import is_encodable_as_toml_key
 from pdsuite.output.octets import printable_path, printable_text
 from pdsuite.output.screen import Screen, print_line_on_stderr
-from pdsuite.output.styled_text import unstyled_text
+from pdsuite.output.styled_text import styled_text_of_one_plain_piece
 from pdsuite.programs.locate import REGRESS
 from pdsuite.programs.lookup import SenderGuard, client_programs_lookup
 from pdsuite.programs.program import Program
@@ -18,7 +18,7 @@ from pdsuite.programs.refusals import query_refusal_lines
 from pdsuite.programs.unproved_programs import proved_or_built_program
 from pdsuite.programs.verdict import Verdict
 from pdsuite.run.batches import SuiteScript, batch_scripts_by_equal_settings
-from pdsuite.run.collect import find_selected_scripts_and_read_configs, suite_scripts_with_config
+from pdsuite.run.collect import find_selected_script_files_and_read_configs, suite_scripts_with_config
 from pdsuite.run.outcomes import ScriptOutcome
 from pdsuite.run.run_batches import SettledPiece, Start, run_batch, starter_without_explanations
 from pdsuite.scripts.config import (
@@ -32,7 +32,11 @@ from pdsuite.scripts.config import (
 from pdsuite.scripts.discover import SUFFIX, ScriptFile
 from pdsuite.scripts.expectation import Expectation
 from pdsuite.scripts.toml_text import TableEdit, TableEdits, TableRemoval, edit_expectations
-from pdsuite.scripts.unused_tables import layers_under_paths, unused_table_warning_lines, unused_table_names
+from pdsuite.scripts.unused_tables import (
+    already_read_layers_under_paths,
+    unused_table_warning_lines,
+    unused_table_names,
+)
 from pdsuite.signals import Stop, StoppedError
 
 _FAULT = 2
@@ -65,12 +69,12 @@ def run_scripts_and_update_expectations(options: ExpectOptions, screen: Screen) 
     with Stop() as stop:
         suite = SuiteConfig(layer_of_option(options.settings))
         try:
-            found = find_selected_scripts_and_read_configs(options.paths, options.only, suite, stop)
+            found = find_selected_script_files_and_read_configs(options.paths, options.only, suite, stop)
             scripts = suite_scripts_with_config(found, suite)
             steady = SenderGuard(client_programs_lookup(REGRESS))
             program = proved_or_built_program(REGRESS, stop, screen)
             refused = query_refusal_lines(suite.all_claims(), lambda: Program([program], stop))
-            lost = list(removals_of_unused_script_tables(suite, options.paths, options.prune))
+            lost = list(removals_of_unused_expectation_tables_or_all(suite, options.paths, options.prune))
             if lines := [*_lines_of_unused_tables_not_removed(suite, options.paths, lost), *refused]:
                 for line in lines:
                     print_line_on_stderr(line)
@@ -85,7 +89,7 @@ def run_scripts_and_update_expectations(options: ExpectOptions, screen: Screen) 
             return stopped.status
         finally:
             screen.clear_live_lines()
-    return _write_changed_expectations_then_report(list(zip(found, outcomes)), lost, options.reason, screen)
+    return _write_expectations_if_reasoned_then_report(list(zip(found, outcomes)), lost, options.reason, screen)
 
 
 def _run_scripts(scripts: Sequence[SuiteScript], start: Start, screen: Screen) -> list[ScriptOutcome]:
@@ -101,11 +105,11 @@ def _run_scripts(scripts: Sequence[SuiteScript], start: Start, screen: Screen) -
     return [outcomes[it.index] for it in scripts]
 
 
-def removals_of_unused_script_tables(
+def removals_of_unused_expectation_tables_or_all(
     suite: SuiteConfig, paths: Sequence[Path], every: bool
 ) -> Iterator[ExpectationChange]:
     """The tables of scripts that aren't there which go: those that say nothing but what is expected, or all."""
-    for folder, layer in layers_under_paths(suite, paths):
+    for folder, layer in already_read_layers_under_paths(suite, paths):
         for name in unused_table_names(layer, folder):
             if every or (name in layer.expected and not layer.tables[name] and name not in layer.strict):
                 place = f'{layer.places.file_and_line_of_key(name)}: ["{printable_text(name)}"]'
@@ -117,14 +121,14 @@ def _lines_of_unused_tables_not_removed(
     suite: SuiteConfig, paths: Sequence[Path], lost: Sequence[ExpectationChange]
 ) -> list[str]:
     """The lines of tables whose scripts aren't there and which don't go."""
-    each = layers_under_paths(suite, paths)
+    each = already_read_layers_under_paths(suite, paths)
     going = {
         folder: {it.name for it in lost if it.folder == folder} for folder, _ in suite.sorted_read_layers_with_folders()
     }
     return [line for folder, layer in each for line in unused_table_warning_lines(layer, folder, going[folder])]
 
 
-def _write_changed_expectations_then_report(
+def _write_expectations_if_reasoned_then_report(
     settled: Sequence[tuple[ScriptFile, ScriptOutcome]],
     lost: Sequence[ExpectationChange],
     reason: str | None,
@@ -148,7 +152,7 @@ def _write_changed_expectations_then_report(
         *(it.message for it in changes),
         f"total {len(settled)} written {written} taken away {len(changes) - written}",
     ]
-    screen.show(unstyled_text("".join(f"{line}\n" for line in lines)))
+    screen.show(styled_text_of_one_plain_piece("".join(f"{line}\n" for line in lines)))
     return _FAULT if left else 0
 
 

@@ -6,7 +6,7 @@ from pathlib import Path
 
 
 from pdsuite.faults import Fault, PlacedFault
-from pdsuite.files import require_new_or_empty_folder, write_folder_atomically
+from pdsuite.files import real_path_requiring_new_or_empty_folder, write_folder_atomically
 from pdsuite.imports.as_json import as_json
 from pdsuite.imports.conversion import ImportSource, Imported, NotImported, convert_script
 from pdsuite.imports.findings import Reason
@@ -19,10 +19,10 @@ from pdsuite.imports.listing import (
 from pdsuite.imports.tables import is_encodable_as_toml_key, settings_files_of
 from pdsuite.output.octets import printable_path
 from pdsuite.output.screen import Screen
-from pdsuite.output.styled_text import unstyled_text
+from pdsuite.output.styled_text import styled_text_of_one_plain_piece
 from pdsuite.scripts.config import SuiteConfig, layer_of_option, old_name_refusals
 from pdsuite.scripts.discover import SUFFIX, ScriptFile, find_scripts
-from pdsuite.scripts.settings import set_command_words
+from pdsuite.scripts.settings import set_command_words_or_placeholders
 from pdsuite.scripts.text import (
     LONGEST_FILE,
     UnfitTextError,
@@ -42,7 +42,7 @@ def import_scripts(source: Path, target: Path, keep_packets: bool, is_json: bool
         if not source.is_dir() and not is_script:
             what = f"neither a folder nor a file *{SUFFIX}" if os.path.lexists(source) else "No such file or directory"
             raise Fault(f"{printable_path(source)}: {what}")
-        place = require_new_or_empty_folder(target)
+        place = real_path_requiring_new_or_empty_folder(target)
         if place.is_relative_to(os.path.realpath(source)):
             raise Fault(f"{printable_path(target)}: lies in the folder that is imported")
         suite = SuiteConfig(layer_of_option(""))
@@ -53,7 +53,7 @@ def import_scripts(source: Path, target: Path, keep_packets: bool, is_json: bool
         _refuse_unused_tables_and_bad_settings(suite, source)
         if any(isinstance(it.came, Imported) for it in scripts):
             write_folder_atomically(place, _files_to_write(source.parent if is_script else source, scripts, stop))
-    screen.show(unstyled_text(as_json(scripts) if is_json else _listing_text(scripts)))
+    screen.show(styled_text_of_one_plain_piece(as_json(scripts) if is_json else _listing_text(scripts)))
     return exit_status_by_errors_and_not_imported(scripts)
 
 
@@ -104,7 +104,7 @@ def _refuse_unused_tables_and_bad_settings(suite: SuiteConfig, source: Path) -> 
     for line in [*unused_table_warning_lines_under_paths(suite, [source]), *old_name_refusals(suite.all_claims())]:
         raise PlacedFault(line)
     for claim in suite.all_claims():
-        if _NO_WORD in set_command_words(claim.key, claim.value):
+        if _NO_WORD in set_command_words_or_placeholders(claim.key, claim.value):
             raise PlacedFault(claim.refusal_line("BadValue"))
 
 

@@ -6,10 +6,10 @@ from pathlib import Path
 
 from pdsuite.output.octets import printable_path, printable_text
 from pdsuite.output.screen import Screen, print_line_on_stderr
-from pdsuite.output.styled_text import unstyled_text
-from pdsuite.reports.last_run import scripts_failed_last
+from pdsuite.output.styled_text import styled_text_of_one_plain_piece
+from pdsuite.reports.last_run import paths_of_scripts_failed_last_or_fault
 from pdsuite.run.batches import SuiteScript
-from pdsuite.run.collect import Selection, find_selected_scripts_and_read_configs, suite_scripts_with_config
+from pdsuite.run.collect import Selection, find_selected_script_files_and_read_configs, suite_scripts_with_config
 from pdsuite.scripts.config import SuiteConfig, layer_of_option, old_name_refusals
 from pdsuite.scripts.settings import Settings, value_as_toml
 from pdsuite.scripts.shards import Shard
@@ -27,10 +27,10 @@ def list_script_paths_and_settings(
 ) -> int:
     """Lists the scripts, and answers the exit status."""
     with Stop() as stop:
-        part = Selection(shard, scripts_failed_last(paths) if last_failed else None)
+        part = Selection(shard, paths_of_scripts_failed_last_or_fault(paths) if last_failed else None)
         suite = SuiteConfig(layer_of_option(settings))
         scripts = suite_scripts_with_config(
-            find_selected_scripts_and_read_configs(paths, only, suite, stop, part), suite
+            find_selected_script_files_and_read_configs(paths, only, suite, stop, part), suite
         )
         if lines := [*unused_table_warning_lines_under_paths(suite, paths), *old_name_refusals(suite.all_claims())]:
             for line in lines:
@@ -38,7 +38,11 @@ def list_script_paths_and_settings(
             return 2
         if not scripts:
             screen.print_note_on_stderr(f"pdsuite: {part.empty_message()}")
-        screen.show(unstyled_text("".join(f"{_path_and_settings_or_error_line(script)}\n" for script in scripts)))
+        screen.show(
+            styled_text_of_one_plain_piece(
+                "".join(f"{_path_and_settings_or_error_line(script)}\n" for script in scripts)
+            )
+        )
     return 2 if any(script.fault for script in scripts) else 0
 
 

@@ -7,13 +7,12 @@ from pathlib import Path
 from tempfile import TemporaryDirectory
 
 from pdsuite.compare.built_senders import build_missing_programs
-from pdsuite.compare.senders import current_sender, last_proved_sender, resolve_sender
 from pdsuite.compare.sides import (
     Side,
     SideSettingsError,
-    make_side_named_with_settings,
-    refuse_commonly_lacked_keys,
     note_renamed_and_lacking_keys,
+    refuse_commonly_lacked_keys,
+    sides_before_and_after_change,
 )
 from pdsuite.faults import Fault
 from pdsuite.measure.measurement import MeasureResult, Measurement, cases_of_paths, program_path_of_side
@@ -28,7 +27,7 @@ from pdsuite.programs.locate import REGRESS
 from pdsuite.programs.lookup import SenderGuard
 from pdsuite.programs.program import Program
 from pdsuite.programs.refusals import query_refused_settings_retrying_once
-from pdsuite.scripts.config import BASE_OPTION, WITH_OPTION, Claim, Layer, every_claim_of_layers, layer_of_option
+from pdsuite.scripts.config import Claim, Layer, every_claim_of_layers, layer_of_option
 from pdsuite.scripts.settings import Settings, sorted_settings
 from pdsuite.signals import Stop, StoppedError
 
@@ -60,9 +59,11 @@ def measure_transfers_of_two_senders(options: MeasureOptions, screen: Screen) ->
     cases = cases_of_paths(load_network_paths_matching(options.paths, options.only), options.runs)
     try:
         with Stop() as stop, TemporaryDirectory(prefix="pdsuite-") as room:
-            named = _before_and_after_sides_of_options(options, Path(room))
+            named = sides_before_and_after_change(
+                options.base, options.base_settings, options.other, options.with_settings, Path(room)
+            )
             screen.print_note_on_stderr(f"pdsuite: before: {named[0].sender}; after: {named[1].sender}")
-            steady = SenderGuard(*(it.sender.program_lookup for it in named))
+            steady = SenderGuard(*(it.sender.lookup_of_programs_or_of_unbuilt_tree for it in named))
             sides = _build_programs_and_adapt_keys(named, layer_of_option(options.settings), stop, screen)
             common = sorted_settings(layer_of_option(options.settings).keys)
             keeping = _MeasureOutputs(options, sides, common)
@@ -70,7 +71,7 @@ def measure_transfers_of_two_senders(options: MeasureOptions, screen: Screen) ->
             measured = measuring.run(stop, lambda done, count: screen.show_progress(done, count, "transfers"))
             screen.clear_live_lines()
             steady.require_unchanged(_AGAIN)
-            report = _transfer_figures_report(measured, named, options.seed, time.monotonic() - begin)
+            report = _measure_report_from_result(measured, named, options.seed, time.monotonic() - begin)
             columns = (
                 None
                 if screen.terminal_columns_if_any is None
@@ -90,15 +91,6 @@ def measure_transfers_of_two_senders(options: MeasureOptions, screen: Screen) ->
         return _FAULT
     except StoppedError as stopped:
         return stopped.status
-
-
-def _before_and_after_sides_of_options(options: MeasureOptions, room: Path) -> tuple[Side, Side]:
-    """The sender before the change, and the one after it; what is checked out goes into a folder."""
-    before = last_proved_sender() if options.base is None else resolve_sender(options.base, "--base", room / "before")
-    after = current_sender() if options.other is None else resolve_sender(options.other, "--with", room / "after")
-    return make_side_named_with_settings(before, options.base_settings, BASE_OPTION), make_side_named_with_settings(
-        after, options.with_settings, WITH_OPTION
-    )
 
 
 def _build_programs_and_adapt_keys(
@@ -125,7 +117,7 @@ def _side_with_keys_that_sender_accepts(side: Side, claims: Sequence[Claim], sto
     )
 
 
-def _transfer_figures_report(
+def _measure_report_from_result(
     measured: MeasureResult, sides: tuple[Side, Side], seed: int, seconds: float
 ) -> MeasureReport:
     """The report of what was measured."""

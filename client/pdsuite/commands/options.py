@@ -39,6 +39,47 @@ class ShardParam(click.ParamType):
         return shard
 
 
+class RuleParam(click.ParamType):
+    """The name of a rule of the sender."""
+
+    name = "name"
+
+    def convert(self, value: str, param: click.Parameter | None, ctx: click.Context | None) -> str:
+        # Only who names a rule pays for what reads their list.
+        from pdsuite.rules.rule_list import refusal_of_rule_name_if_unknown
+
+        if refusal := refusal_of_rule_name_if_unknown(value):
+            self.fail(refusal, param, ctx)
+        return value
+
+    def shell_complete(
+        self, ctx: click.Context, param: click.Parameter, incomplete: str
+    ) -> list["click.shell_completion.CompletionItem"]:
+        return _completions_by_rule_names("", incomplete)
+
+
+class GoalParam(click.ParamType):
+    """The words of a search's goal, of which `rule:NAME` is a rule of the sender."""
+
+    name = "pattern"
+
+    def shell_complete(
+        self, ctx: click.Context, param: click.Parameter, incomplete: str
+    ) -> list["click.shell_completion.CompletionItem"]:
+        before, blank, _ = incomplete.rpartition(" ")
+        return _completions_by_rule_names(f"{before}{blank}rule:", incomplete)
+
+
+def _completions_by_rule_names(before: str, incomplete: str) -> list["click.shell_completion.CompletionItem"]:
+    """The names of rules, each after a text, that begin with what is there already."""
+    from click.shell_completion import CompletionItem
+
+    from pdsuite.rules.rule_list import load_sender_rules
+
+    words = (f"{before}{it.name}" for it in load_sender_rules())
+    return [CompletionItem(it) for it in words if it.startswith(incomplete)]
+
+
 class ReasonParam(click.ParamType):
     """Why a script is known not to pass, in a line."""
 
@@ -52,6 +93,14 @@ class ReasonParam(click.ParamType):
         return value
 
 
+goal_option = click.option(
+    "--for",
+    "pattern",
+    metavar="PATTERN",
+    type=GoalParam(),
+    required=True,
+    help="Facts of a state, NAME:VALUE each, and rules, rule:NAME each.",
+)
 no_color_option = click.option("--no-color", is_flag=True, help="No colours on a terminal.")
 
 

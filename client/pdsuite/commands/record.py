@@ -11,7 +11,7 @@ from pdsuite.faults import Fault
 from pdsuite.files import write_file_atomically
 from pdsuite.output.octets import printable_path, printable_text
 from pdsuite.output.screen import Screen, print_line_on_stderr
-from pdsuite.output.styled_text import StyledText, unstyled_text
+from pdsuite.output.styled_text import StyledText, styled_text_of_one_plain_piece
 from pdsuite.programs.locate import RECORD, REGRESS, locate_given_or_proved_program
 from pdsuite.programs.lookup import SenderGuard, client_programs_lookup
 from pdsuite.programs.program import Program
@@ -23,7 +23,7 @@ from pdsuite.programs.verdict import Verdict
 from pdsuite.run.batches import SuiteScript, batch_scripts_by_equal_settings
 from pdsuite.run.collect import (
     INPUT,
-    find_selected_scripts_and_read_configs,
+    find_selected_script_files_and_read_configs,
     suite_scripts_with_config,
     read_standard_input_script_if_named,
 )
@@ -121,7 +121,7 @@ def _standard_input_or_found_scripts(options: RecordOptions, suite: SuiteConfig,
     if (script := read_standard_input_script_if_named(options.paths, suite)) is not None:
         return [script]
     return suite_scripts_with_config(
-        find_selected_scripts_and_read_configs(options.paths, options.only, suite, stop), suite
+        find_selected_script_files_and_read_configs(options.paths, options.only, suite, stop), suite
     )
 
 
@@ -241,7 +241,9 @@ def _show_or_write_changes(each: Sequence[RecordedFile], writes: bool, screen: S
                 write_file_atomically(Path(it.script.path), it.diff.new, keeps_rights=True)
             else:
                 screen.show(unified_diff_text(it.diff))
-        screen.show(unstyled_text("".join(f"{line}\n" for line in changed_folder_and_total_lines(each))))
+        screen.show(
+            styled_text_of_one_plain_piece("".join(f"{line}\n" for line in changed_folder_and_total_lines(each)))
+        )
     for it in each:
         if it.fault:
             print_line_on_stderr(f"{printable_path(it.script.path)}: isn't recorded: {it.fault}")

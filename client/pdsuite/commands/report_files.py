@@ -1,4 +1,4 @@
-"""The files that reports are written to beside the one that is shown: which words name them, and where they may be."""
+"""The files of reports beside the one that is shown: which words name them (`-` is none), and where they may be."""
 
 import os
 import sys
@@ -53,25 +53,25 @@ class ReportCommand(click.Command):
         options = [it for it in self.params if isinstance(it, click.Option)]
         taking = {name for it in options if not it.is_flag for name in it.opts}
         words, files = split_off_report_files(args, taking)
-        if len(printed := _printing_flags(words, taking)) > 1 and not ctx.resilient_parsing:
+        if len(printed := _printing_flags_among_words(words, taking)) > 1 and not ctx.resilient_parsing:
             raise click.UsageError(f"{' and '.join(printed)} print a report each: one alone, or --json=FILE", ctx)
         left = super().parse_args(ctx, words)
         for option in options:
             for name in _SUFFIXES.keys() & set(option.opts):
                 ctx.params[name.lstrip("-")] = (
-                    None if ctx.resilient_parsing else _at_most_one_file_of_flag(option, files[name], ctx)
+                    None if ctx.resilient_parsing else _file_of_flag_refusing_two(option, files[name], ctx)
                 )
         return left
 
 
-def _printing_flags(words: Sequence[str], taking: Collection[str]) -> list[str]:
+def _printing_flags_among_words(words: Sequence[str], taking: Collection[str]) -> list[str]:
     """The flags among words that say how the report is printed, each once; the word after an option is none."""
     before = words[: words.index(_END)] if _END in words else words
     flags = [it for it, last in zip(before, ("", *before)) if it in _FORMS and last not in taking]
     return list(dict.fromkeys(flags))
 
 
-def _at_most_one_file_of_flag(option: click.Option, named: Sequence[str], ctx: click.Context) -> Path | None:
+def _file_of_flag_refusing_two(option: click.Option, named: Sequence[str], ctx: click.Context) -> Path | None:
     """The file that a flag has, if it has one."""
     paths = list(dict.fromkeys(FileParam().convert(it, option, ctx) for it in named))
     if len(paths) > 1:

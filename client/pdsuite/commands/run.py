@@ -33,7 +33,11 @@ from pdsuite.reports.as_json import JsonFormatter
 from pdsuite.reports.fitting_formatter import FittingFormatter
 from pdsuite.reports.formatter import Formatter
 from pdsuite.reports.github import SUMMARY, GithubFormatter, step_summary
-from pdsuite.reports.last_run import save_report_or_note_failure, scripts_failed_last, formatter_of_new_rows_only
+from pdsuite.reports.last_run import (
+    save_report_or_note_failure,
+    paths_of_scripts_failed_last_or_fault,
+    formatter_of_new_rows_only,
+)
 from pdsuite.reports.plain import PlainFormatter
 from pdsuite.reports.report import Report
 from pdsuite.reports.tap import TapFormatter
@@ -42,7 +46,7 @@ from pdsuite.run.batches import SuiteScript, batch_scripts_by_equal_settings
 from pdsuite.run.collect import (
     INPUT,
     Selection,
-    find_selected_scripts_and_read_configs,
+    find_selected_script_files_and_read_configs,
     suite_scripts_with_config,
     read_standard_input_script_if_named,
 )
@@ -123,7 +127,9 @@ def run_scripts(options: RunOptions, screen: Screen) -> int:
     form = _make_formatter(options)
     with Stop() as stop:
         suite = SuiteConfig(layer_of_option(options.settings))
-        part = Selection(options.shard, scripts_failed_last(options.paths) if options.last_failed else None)
+        part = Selection(
+            options.shard, paths_of_scripts_failed_last_or_fault(options.paths) if options.last_failed else None
+        )
         try:
             scripts = _standard_input_or_found_scripts(options, suite, part, stop)
             if not scripts:
@@ -143,7 +149,7 @@ def run_scripts(options: RunOptions, screen: Screen) -> int:
                 # Refuse all that can be refused before anything is built.
                 if lines := unused_table_warning_lines_under_paths(suite, options.paths):
                     return _print_errors_always_returning_fault(lines)
-                page = _page_updates_if_requested(options, screen, is_unproved)
+                page = _requested_page_updates_or_none(options, screen, is_unproved)
                 program = _build_unproved_program_if_keepable(len(scripts), stop, screen)
             if program is None and options.scheduler is not None:
                 look.require_program(REGRESS)  # workers run programs that stand somewhere
@@ -152,7 +158,7 @@ def run_scripts(options: RunOptions, screen: Screen) -> int:
             refused = query_refusal_lines(suite.all_claims(), partial(Program, [program], stop))
             if lines := [*unused_table_warning_lines_under_paths(suite, options.paths), *refused]:
                 return _print_errors_always_returning_fault(lines)
-            page = page or _page_updates_if_requested(options, screen, is_unproved)
+            page = page or _requested_page_updates_or_none(options, screen, is_unproved)
             with _cluster_or_local_mapper(options, program, stop, screen.print_note_on_stderr) as mapper:
                 return _run_and_report(mapper, scripts, options, form, screen, begin, stop, steady, page, is_unproved)
         except StoppedError as stopped:
@@ -168,7 +174,9 @@ def _standard_input_or_found_scripts(
             raise Fault("-: standard input is no part of a suite")
         return [script]
     return suite_scripts_with_config(
-        find_selected_scripts_and_read_configs(options.paths, options.only, suite, stop, part), suite, options.strict
+        find_selected_script_files_and_read_configs(options.paths, options.only, suite, stop, part),
+        suite,
+        options.strict,
     )
 
 
@@ -202,11 +210,11 @@ def _proved_program_or_none_if_allowed(options: RunOptions, look: ProgramLookup)
 def _build_unproved_program_if_keepable(count: int, stop: Stop, screen: Screen) -> Path | None:
     """The program of a build of the sender as it stands for so many scripts, or none where no build can be kept."""
     # Only who has no proved program pays for what does without them.
-    from pdsuite.programs.unproved_programs import build_and_use_programs_if_possible
+    from pdsuite.programs.unproved_programs import use_kept_or_new_build_if_possible
 
     return (
         locate_given_or_proved_program(REGRESS)
-        if build_and_use_programs_if_possible("any" if count > _MANY else "plain", stop, screen)
+        if use_kept_or_new_build_if_possible("any" if count > _MANY else "plain", stop, screen)
         else None
     )
 
@@ -234,7 +242,7 @@ def _run_unproved_and_report(
     return _run_and_report(tried.settled_steps, scripts, options, form, screen, begin, stop, steady, page, True, tried)
 
 
-def _page_updates_if_requested(options: RunOptions, screen: Screen, is_unproved: bool) -> "PageUpdates | None":
+def _requested_page_updates_or_none(options: RunOptions, screen: Screen, is_unproved: bool) -> "PageUpdates | None":
     """The page, if one is requested."""
     if options.html is None:
         return None
@@ -249,7 +257,7 @@ def _page_updates_if_requested(options: RunOptions, screen: Screen, is_unproved:
     )
 
 
-def _keep_texts_and_causes(
+def _steps_storing_texts_and_failure_causes(
     steps: Iterable[Step], texts: dict[int, ScriptText], causes: dict[int, Cause]
 ) -> Iterator[Step]:
     """The steps, whose texts are kept, and what is reported by keys of scripts that don't pass."""
@@ -304,12 +312,14 @@ def _run_and_report(
     try:
         report.show_opening()
         with closing(mapper(batch_scripts_by_equal_settings(scripts))) as steps:
-            kept_steps = steps if page is None else _keep_texts_and_causes(steps, texts, causes)
+            kept_steps = steps if page is None else _steps_storing_texts_and_failure_causes(steps, texts, causes)
             kept_steps = add_dropped_import_features_to_failures(kept_steps)
             explained_steps = _with_whole_explanations(kept_steps) if options.has_json_report else kept_steps
             if options.full_diff:
                 explained_steps = _with_line_diffs(explained_steps, tried, stop, screen.print_note_on_stderr)
-            ended = _report_steps_returning_interruption(explained_steps, report, checking, screen, options.fail_fast)
+            ended = _report_run_steps_returning_interruption(
+                explained_steps, report, checking, screen, options.fail_fast
+            )
         if has_changed := steady.has_changed():
             screen.print_note_on_stderr(f"pdsuite: {CHANGED}: run the scripts again")
         totals = report.show_rest_and_totals(time.monotonic() - begin)
@@ -358,11 +368,14 @@ def _with_line_diffs(
         return add_line_diffs_to_failed_outcomes(steps, lambda script, _: recordings[script.index])
     recorder = Recorder(stop, note)
     return add_line_diffs_to_failed_outcomes(
-        steps, lambda script, text: recorder.record_script_or_note_reason(script.path, text.octets, script.settings)
+        steps,
+        lambda script, text: recorder.record_script_or_return_and_note_reason(
+            script.path, text.octets, script.settings
+        ),
     )
 
 
-def _report_steps_returning_interruption(
+def _report_run_steps_returning_interruption(
     steps: Iterable[Step], report: Report, checking: AssertionCheck, screen: Screen, fail_fast: bool
 ) -> StoppedError | CutShortError | None:
     """Reports each step, up to the last one or the one where it is to end; what ended it early, if anything did."""
@@ -385,7 +398,7 @@ def _write_report_files_returning_faults(options: RunOptions, report: Report, se
     if not options.report_files.requested_files and options.github_summary_file is None:
         return []
     outcomes = [*report.outcomes, *report.unshown_or_not_run_outcomes()]
-    totals = report.totals_of(outcomes)
+    totals = report.outcome_totals_with_unproved_flag(outcomes)
     faults = options.report_files.write_reports_collecting_faults(outcomes, totals, seconds, options.shard)
     if options.github_summary_file is not None:
         try:

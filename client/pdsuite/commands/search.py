@@ -1,4 +1,4 @@
-"""`pdsuite search`, and `pdsuite compare --search`: inputs that reach a state, or tell two senders apart."""
+"""`pdsuite search`, and `pdsuite compare --search`: inputs that reach rules or a state, or tell two senders apart."""
 
 import random
 from collections.abc import Callable, Sequence
@@ -6,38 +6,39 @@ from dataclasses import dataclass, replace
 from pathlib import Path
 from tempfile import TemporaryDirectory
 
-from pdsuite.compare.affected import names_changed_between_trees
+from pdsuite.compare.affected import changed_functions_and_constants_of_trees
 from pdsuite.compare.built_senders import build_missing_programs
-from pdsuite.compare.senders import Sender, current_sender, resolve_sender
+from pdsuite.compare.senders import Sender, current_sender, sender_of_folder_or_checked_out_commit
 from pdsuite.compare.sides import Side, refuse_commonly_lacked_keys, note_renamed_and_lacking_keys
 from pdsuite.faults import Fault
 from pdsuite.output.octets import printable_text
 from pdsuite.output.screen import Screen
-from pdsuite.output.styled_text import unstyled_text
+from pdsuite.output.styled_text import styled_text_of_one_plain_piece
 from pdsuite.programs.locate import TOP
 from pdsuite.programs.lookup import SenderGuard
 from pdsuite.programs.verdict import Row
 from pdsuite.reports.search import (
-    render_find_settings_and_recordings,
+    render_find_with_recordings_and_failure,
     render_offer_as_suite_script,
     render_coverage_and_search_totals,
 )
+from pdsuite.rules.rule_list import refusal_of_rule_pattern_if_unmatched
 from pdsuite.scripts.config import Layer, every_claim_of_layers
 from pdsuite.scripts.settings import sorted_settings
 from pdsuite.search.candidates import CandidateLists
-from pdsuite.search.coverage import parse_state_pattern_if_valid
-from pdsuite.search.find import DiffersTest, FailsTest, Find, ReachesTest, configured_script_of
+from pdsuite.search.find import DiffersTest, FailsTest, Find, configured_script_of_find
 from pdsuite.search.finished_script import (
     least_script_of_find,
     prepend_comment_lines,
-    prepend_comment_and_rerun_for_row,
+    prepend_comment_stating_row_of_rerun,
 )
 from pdsuite.search.generate import KEYS
-from pdsuite.search.initial_inputs import record_initial_inputs, suite_scripts_of_tree
+from pdsuite.search.goal import SearchGoal, parse_goal_if_valid
+from pdsuite.search.initial_inputs import record_corpus_without_fixed_settings, suite_scripts_of_tree
 from pdsuite.search.oracle import (
     SettingsOracle,
     SideOracle,
-    build_trees_and_open_oracles,
+    open_oracles_building_missing_programs,
     input_counts_of_successive_queries,
 )
 from pdsuite.search.relevance import emphasis_of_changes, script_name_and_comment_of_changed_rule
@@ -59,50 +60,67 @@ class SearchOptions:
     save: Path | None
 
 
-def search_state(text: str, word: str | None, options: SearchOptions, screen: Screen) -> int:
-    """Searches for a state, and answers the exit status: 1 where no input reaches it."""
-    pattern = parse_state_pattern_if_valid(text)
-    if pattern is None:
-        raise Fault(f"--for: {printable_text(text)}: no facts as NAME:VALUE with blanks between them")
+def search_goal(text: str, word: str | None, options: SearchOptions, screen: Screen) -> int:
+    """Searches for rules and a state, as the text says, and answers the exit status: 1 where no input reaches them."""
+    goal = _goal_of_known_rules(text)
     if options.save is not None:
         refuse_save_path_misnamed_or_configured(options.save)
     try:
         with Stop() as stop, TemporaryDirectory(prefix="pdsuite-") as room:
-            sender = current_sender() if word is None else resolve_sender(word, "--with", Path(room) / "sender")
+            sender = (
+                current_sender()
+                if word is None
+                else sender_of_folder_or_checked_out_commit(word, "--with", Path(room) / "sender")
+            )
             _require_recorders([sender])
-            seed, steady = _given_or_random_seed(options), SenderGuard(sender.program_lookup)
+            seed, steady = _given_or_random_seed(options), SenderGuard(sender.lookup_of_programs_or_of_unbuilt_tree)
             if not sender.is_proved:
                 screen.print_note_on_stderr(f"pdsuite: {sender}")
             (sender,) = build_missing_programs([sender], "optimised", stop, screen)
-            with build_trees_and_open_oracles([sender], stop) as (oracle,):
+            with open_oracles_building_missing_programs([sender], stop) as (oracle,):
+                test = goal.test_by_oracle(oracle)
                 drawing = CandidateLists(
                     seed,
                     input_counts_of_successive_queries(),
                     Emphasis(),
-                    record_initial_inputs(suite_scripts_of_tree(TOP, stop), oracle, frozenset()),
+                    record_corpus_without_fixed_settings(suite_scripts_of_tree(TOP, stop), oracle, frozenset()),
                 )
-                searched = Search(oracle, ReachesTest(pattern), None, drawing, options.seconds).run(
+                searched = Search(oracle, test, None, drawing, options.seconds).run(
                     _bottom_line_progress_callback(screen)
                 )
             steady.require_unchanged(_AGAIN)
-            if searched.find is not None:
-                settings = searched.find.inputs.settings
-                screen.show(
-                    render_find_settings_and_recordings(
-                        searched.find, f"an input reaches {printable_text(text)}", [settings], None, None, ()
-                    )
-                )
-                if options.save is not None:
-                    head = [f"Reaches {printable_text(text)}.", f"Recorded by {sender}."]
-                    save_script_and_settings(
-                        options.save, prepend_comment_lines(head, configured_script_of(searched.find).octets), settings
-                    )
-            else:
-                screen.show(unstyled_text(f"no input reaches {printable_text(text)}\n"))
+            _show_and_save_reached(searched.find, text, sender, options.save, screen)
             screen.show(render_coverage_and_search_totals(searched, seed, not sender.is_proved))
             return 1 if searched.find is None else 0
     except StoppedError as stopped:
         return stopped.status
+
+
+def _goal_of_known_rules(text: str) -> SearchGoal:
+    """The goal that a text says, which names no rule that there isn't."""
+    goal = parse_goal_if_valid(text)
+    if goal is None:
+        raise Fault(f"--for: {printable_text(text)}: no facts as NAME:VALUE with blanks between them")
+    for rule in goal.rules:
+        if refusal := refusal_of_rule_pattern_if_unmatched(rule):
+            raise Fault(f"--for: {refusal}")
+    return goal
+
+
+def _show_and_save_reached(find: Find | None, text: str, sender: Sender, save: Path | None, screen: Screen) -> None:
+    """Shows what reaches a goal, as it is saved, or that nothing does."""
+    if find is None:
+        screen.show(styled_text_of_one_plain_piece(f"no input reaches {printable_text(text)}\n"))
+        return
+    settings = find.inputs.settings
+    screen.show(
+        render_find_with_recordings_and_failure(
+            find, f"an input reaches {printable_text(text)}", [settings], None, None, ()
+        )
+    )
+    if save is not None:
+        head = [f"Reaches {printable_text(text)}.", f"Recorded by {sender}."]
+        save_script_and_settings(save, prepend_comment_lines(head, configured_script_of_find(find).octets), settings)
 
 
 def search_difference(
@@ -122,15 +140,20 @@ def search_difference(
         refuse_save_path_misnamed_or_configured(options.save)
     senders = [it.sender for it in sides]
     _require_recorders(senders)
-    seed, steady = _given_or_random_seed(options), SenderGuard(*(it.program_lookup for it in senders))
+    seed, steady = _given_or_random_seed(options), SenderGuard(
+        *(it.lookup_of_programs_or_of_unbuilt_tree for it in senders)
+    )
     senders = build_missing_programs(senders, "optimised", stop, screen)
-    with build_trees_and_open_oracles(senders, stop) as oracles:
+    with open_oracles_building_missing_programs(senders, stop) as oracles:
         before, after = _side_oracles_without_lacked_keys(oracles, sides, common, screen)
-        changed = names_changed_between_trees(*trees)
+        changed = changed_functions_and_constants_of_trees(*trees)
         emphasis = emphasis_of_changes(changed, _keys_fixed_or_lacked(before.side, after.side, common))
         scripts = suite_scripts_of_tree(trees[0] or TOP, stop)
         drawing = CandidateLists(
-            seed, input_counts_of_successive_queries(), emphasis, record_initial_inputs(scripts, before, emphasis.fixed)
+            seed,
+            input_counts_of_successive_queries(),
+            emphasis,
+            record_corpus_without_fixed_settings(scripts, before, emphasis.fixed),
         )
         searched = Search(before, FailsTest(after), DiffersTest(after), drawing, options.seconds).run(
             _bottom_line_progress_callback(screen)
@@ -174,18 +197,18 @@ def _show_and_save_find(
     """Shows what was found, as it is saved."""
     script = least_script_of_find(find, before, after)
     if options.save is not None:
-        script = prepend_comment_and_rerun_for_row(
-            script, lambda row: _recorder_and_verdict_comment_lines(row, before, after), after
+        script = prepend_comment_stating_row_of_rerun(
+            script, lambda row: _recording_sender_and_verdict_comment_lines(row, before, after), after
         )
     (other,) = after.record_inputs_or_scripts([find.inputs])
     settings = [it.settings_on_side(find.inputs.settings) for it in (before, after)]
     if script.row is None:
         what = "recordings differ, and no script that was tried shows it: the senders' packets differ at the end alone"
-        screen.show(render_find_settings_and_recordings(find, what, settings, other.text, script.row, ()))
+        screen.show(render_find_with_recordings_and_failure(find, what, settings, other.text, script.row, ()))
     else:
         what = "a script fails under the sender after"
         screen.show(
-            render_find_settings_and_recordings(
+            render_find_with_recordings_and_failure(
                 find, what, settings, other.text, script.row, after.explanation_lines_of_script(script.script)
             )
         )
@@ -193,7 +216,7 @@ def _show_and_save_find(
         save_script_and_settings(options.save, script.script.octets, before.settings_on_side(find.inputs.settings))
 
 
-def _recorder_and_verdict_comment_lines(row: Row | None, before: SideOracle, after: SideOracle) -> list[str]:
+def _recording_sender_and_verdict_comment_lines(row: Row | None, before: SideOracle, after: SideOracle) -> list[str]:
     """The comment of a saved script, which has this row under the sender after, if it fails there."""
     fails = "It passes under" if row is None else f"It fails ({row.whole_text_without_name}) under"
     return [f"Recorded by {before.side.sender}.", f"{fails} {after.side.sender}."]

@@ -11,13 +11,13 @@ from pdsuite.programs.locate import RECORD, REGRESS, client_version_or_commit, l
 def commit_and_program_checksum_lines() -> Iterator[str]:
     """The commit of the client, and each program with its SHA-256. Where pdrecord isn't there, a line says so."""
     yield f"pdsuite {client_version_or_commit()}"
-    yield _name_whole_checksum_and_path_line(REGRESS)
+    yield _program_name_sha256_and_path_line(REGRESS)
     try:
-        yield _name_whole_checksum_and_path_line(RECORD)
+        yield _program_name_sha256_and_path_line(RECORD)
     except Fault as fault:
         print_line_on_stderr(f"pdsuite: {fault}; nothing is recorded")
 
 
-def _name_whole_checksum_and_path_line(name: str) -> str:
+def _program_name_sha256_and_path_line(name: str) -> str:
     path = locate_given_or_proved_program(name)
     return f"{name} {sha256_of(path)} {printable_path(path)}"

@@ -9,14 +9,14 @@ from tempfile import TemporaryDirectory
 from typing import TYPE_CHECKING
 
 from pdsuite.commands.options import thread_count_or_one_per_processor
-from pdsuite.compare.senders import resolve_sender
+from pdsuite.compare.senders import sender_of_folder_or_checked_out_commit
 from pdsuite.faults import Fault
 from pdsuite.output.octets import printable_text
 from pdsuite.output.screen import Screen, print_line_on_stderr
 from pdsuite.page.diagram_choice import diagram_choice_with_defaults
 from pdsuite.programs.build import build_if_needed_and_get_folder, find_kept_build
 from pdsuite.programs.locate import RECORD, REGRESS
-from pdsuite.programs.lookup import find_own_tree_if_buildable, client_programs_lookup
+from pdsuite.programs.lookup import find_client_or_launcher_tree_if_buildable, client_programs_lookup
 from pdsuite.programs.unproved_programs import build_progress_printer, unproved_notice
 from pdsuite.run.collect import INPUT
 from pdsuite.scripts.config import layer_of_option
@@ -61,9 +61,9 @@ def watch_scripts(options: WatchOptions, screen: Screen) -> int:
             screen, None, options.verbose, _terminal_or_plain_change_report(options, screen), options.html is not None
         )
         try:
-            tree = find_own_tree_if_buildable()
+            tree = find_client_or_launcher_tree_if_buildable()
             follower = held.enter_context(SenderFollower(client_programs_lookup(REGRESS, RECORD), (REGRESS,), tree))
-            follower.update_sender_returning_whether_changed(0.0)
+            follower.update_returning_if_sender_or_reason_changed(0.0)
             if follower.sender is None:
                 _require_tree_and_print_unproved_notice(follower, tree, screen)
             page = held.enter_context(_page_updates_or_null_context(options, screen))
@@ -76,7 +76,9 @@ def watch_scripts(options: WatchOptions, screen: Screen) -> int:
             lines = refused.lines
         except StoppedError as stopped:
             return (
-                stopped.status if view.last_report_exit_status_if_any is None else view.last_report_exit_status_if_any
+                stopped.status
+                if view.last_exit_status_with_outdated_as_fault is None
+                else view.last_exit_status_with_outdated_as_fault
             )
     for line in lines:
         print_line_on_stderr(line)
@@ -94,10 +96,10 @@ def _build_base_sender_if_requested(options: WatchOptions, room: Path, screen: S
     """The sender against which turned scripts are compared, built now where that has to be."""
     if options.base is None:
         return None
-    sender = resolve_sender(options.base, "--base", room / "base")
+    sender = sender_of_folder_or_checked_out_commit(options.base, "--base", room / "base")
     if sender.programs is None:
-        folder = find_kept_build(sender.known_tree_to_build, WAY) or build_if_needed_and_get_folder(
-            sender.known_tree_to_build, WAY, stop, build_progress_printer(screen, f" {sender.name}")
+        folder = find_kept_build(sender.asserted_tree_to_build, WAY) or build_if_needed_and_get_folder(
+            sender.asserted_tree_to_build, WAY, stop, build_progress_printer(screen, f" {sender.name}")
         )
         programs = (folder / REGRESS, folder / RECORD)
         return BaseSender(

@@ -78,13 +78,13 @@ class RowStarts:
     tree: Path
     starts: Sequence[tuple[str, Case]]
 
-    def cases_of_program(self, program: str) -> tuple[Case, ...]:
+    def start_cases_of_program(self, program: str) -> tuple[Case, ...]:
         """The starts of a program."""
         return tuple(case for name, case in self.starts if name == program)
 
     def cases_of_pdregress_and_pdrecord(self, tree: Path) -> list[ProgramCases]:
         """The same, of a tree that has to be built."""
-        return [ProgramCases(tree, it, (), self.cases_of_program(it)) for it in (REGRESS, RECORD)]
+        return [ProgramCases(tree, it, (), self.start_cases_of_program(it)) for it in (REGRESS, RECORD)]
 
 
 def query_test_row_starts_of_sender(sender: Sender, room: Path) -> RowStarts:
@@ -117,7 +117,7 @@ def _run_affected_tool(tree: Path, *words: str | Path) -> bytes:
     return done.stdout
 
 
-def names_changed_between_trees(before: Path | None, after: Path | None) -> list[dict[str, Any]]:
+def changed_functions_and_constants_of_trees(before: Path | None, after: Path | None) -> list[dict[str, Any]]:
     """The functions and constants that changed between two trees, with the names in them; none if one isn't known."""
     if before is None or after is None or not (TOP / _TOOL).is_file():
         return []
@@ -128,7 +128,7 @@ def names_changed_between_trees(before: Path | None, after: Path | None) -> list
 def run_starts_on_programs(programs: dict[str, Path], row_starts: RowStarts, stop: Stop) -> list[ProcessOutput]:
     """Runs the starts on these programs, several at a time, and answers their outputs."""
 
-    def run_start_or_empty_output(each: tuple[str, Case]) -> ProcessOutput:
+    def run_start_or_empty_output_on_abort(each: tuple[str, Case]) -> ProcessOutput:
         name, case = each
         try:
             with Program([programs[name], *case.words], stop) as program:
@@ -139,7 +139,7 @@ def run_starts_on_programs(programs: dict[str, Path], row_starts: RowStarts, sto
     # One that isn't there has printed nothing.
     there = [each if each[0] in programs else None for each in row_starts.starts]
     with ThreadPoolExecutor(len(os.sched_getaffinity(0))) as pool:
-        return list(pool.map(lambda each: run_start_or_empty_output(each) if each else ProcessOutput(), there))
+        return list(pool.map(lambda each: run_start_or_empty_output_on_abort(each) if each else ProcessOutput(), there))
 
 
 def tree_outputs_after_isolated_reruns(
@@ -154,7 +154,7 @@ def tree_outputs_after_isolated_reruns(
     lost = [[place for place, it in enumerate(each) if it.is_shared] for each in answered]
     if count := sum(map(len, lost)):
         note(f"pdsuite: {count:,} starts on rows are tried again, each by itself")
-        cases = [row_starts.cases_of_program(it) for it in (REGRESS, RECORD)]
+        cases = [row_starts.start_cases_of_program(it) for it in (REGRESS, RECORD)]
         alone = [
             ProgramCases(tree, name, (), tuple(replace(mine[place], is_alone=True) for place in places))
             for name, mine, places in zip((REGRESS, RECORD), cases, lost)

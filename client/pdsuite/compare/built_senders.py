@@ -21,7 +21,7 @@ from pdsuite.signals import Stop
 
 def build_missing_programs(senders: Sequence[Sender], way: BuildMode, stop: Stop, screen: Screen) -> list[Sender]:
     """The senders, each with programs; where none can be built and kept, one stays a tree."""
-    trees = list(dict.fromkeys(it.known_tree_to_build for it in senders if not it.has_programs))
+    trees = list(dict.fromkeys(it.asserted_tree_to_build for it in senders if not it.has_programs))
     with ThreadPoolExecutor() as pool:
         folders = dict(zip(trees, pool.map(lambda tree: find_kept_build(tree, way), trees)))
     if lacking := [it for it, folder in folders.items() if folder is None]:
@@ -29,7 +29,7 @@ def build_missing_programs(senders: Sequence[Sender], way: BuildMode, stop: Stop
         screen.print_note_on_stderr(f"pdsuite: building {what} first")
         folders |= _build_trees_returning_folders(lacking, way, stop, screen)
     return [
-        it if it.has_programs else _with_programs_from_build_folder(it, folders[it.known_tree_to_build])
+        it if it.has_programs else _with_programs_from_build_folder(it, folders[it.asserted_tree_to_build])
         for it in senders
     ]
 
@@ -65,7 +65,7 @@ def build_plain_if_sender_is_optimised(sender: Sender, stop: Stop) -> Sender | N
         return None
     try:
         return _with_programs_from_build_folder(
-            sender, build_if_needed_and_get_folder(sender.known_tree_to_build, "plain", stop)
+            sender, build_if_needed_and_get_folder(sender.asserted_tree_to_build, "plain", stop)
         )
     except (NoKeptBuildError, BuildError):
         return None

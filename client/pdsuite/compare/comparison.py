@@ -9,7 +9,7 @@ from enum import StrEnum
 from pdsuite.compare.divergence import Divergence, first_divergence_in_event_or_time
 from pdsuite.output.octets import printable_octets
 from pdsuite.programs.batch_protocol import ProcessOutput
-from pdsuite.programs.protocol import Cause
+from pdsuite.programs.protocol import Cause, RulesByLine
 from pdsuite.programs.recorder import Recording
 from pdsuite.run.outcomes import ScriptOutcome
 from pdsuite.scripts.text import ScriptText
@@ -28,7 +28,8 @@ class ComparisonKind(StrEnum):
 class SenderResults:
     """The results of a sender: by the places of scripts their outcomes, texts, recordings, and explanations by keys.
 
-    Last come its outputs on rows, in their order.
+    Then come its outputs on rows, in their order. Last come the rules of the scripts of which they are known; there are
+    none at all if they weren't requested, or if the sender can't list any.
     """
 
     outcomes: Mapping[int, ScriptOutcome]
@@ -36,6 +37,7 @@ class SenderResults:
     recordings: Mapping[int, Recording] = field(default_factory=dict)
     causes: Mapping[int, Cause] = field(default_factory=dict)
     outputs: Sequence[ProcessOutput] = ()
+    rules: Mapping[int, RulesByLine] | None = None
 
 
 @dataclass(frozen=True)

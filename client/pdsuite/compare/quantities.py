@@ -1,4 +1,4 @@
-"""How much a sender does with a script's inputs: what it sends, sends again, and how long that takes."""
+"""Quantities of a run by a sender: its segments, the octets sent again, its expiries, and when all was acknowledged."""
 
 import re
 from collections.abc import Iterable, Iterator, Mapping, Sequence

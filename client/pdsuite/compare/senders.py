@@ -57,7 +57,7 @@ class Sender:
         return self.programs is None or RECORD in self.programs
 
     @property
-    def program_lookup(self) -> ProgramLookup:
+    def lookup_of_programs_or_of_unbuilt_tree(self) -> ProgramLookup:
         """A look at its programs, or at the tree that it is built from."""
         if self.programs is not None:
             return (
@@ -65,7 +65,7 @@ class Sender:
                 if self.tree is None
                 else proved_programs_lookup(self.tree, *self.programs)
             )
-        return proved_programs_lookup(self.known_tree_to_build, REGRESS)
+        return proved_programs_lookup(self.asserted_tree_to_build, REGRESS)
 
     def find_or_check_out_sources(self, place: Path) -> Path | None:
         """The tree of its sources, if it is known; that of a commit is put into a new folder."""
@@ -77,7 +77,7 @@ class Sender:
         return self.tree
 
     @property
-    def known_tree_to_build(self) -> Path:
+    def asserted_tree_to_build(self) -> Path:
         """The tree that it is built from."""
         assert self.tree is not None
         return self.tree
@@ -86,7 +86,7 @@ class Sender:
         return self.name if self.is_proved else f"{self.name}, unproved"
 
 
-def resolve_sender(word: str, option: str, place: Path) -> Sender:
+def sender_of_folder_or_checked_out_commit(word: str, option: str, place: Path) -> Sender:
     """The sender that a word names: a folder of programs, a tree, or a commit, whose tree is put into a new folder."""
     folder = Path(word)
     if tree := find_tree_if_launcher_folder(folder):

@@ -2,11 +2,12 @@
 
 from collections.abc import Callable, Iterable, Sequence
 from dataclasses import dataclass, replace
+from pathlib import Path
 
-from pdsuite.compare.senders import Sender
+from pdsuite.compare.senders import Sender, current_sender, last_proved_sender, sender_of_folder_or_checked_out_commit
 from pdsuite.programs.refusals import Refusal
 from pdsuite.run.batches import SuiteScript
-from pdsuite.scripts.config import Claim, Layer, every_claim_of_layers, layer_of_option
+from pdsuite.scripts.config import BASE_OPTION, WITH_OPTION, Claim, Layer, every_claim_of_layers, layer_of_option
 from pdsuite.scripts.renamed import KEYS, OLD_KEYS, UNKNOWN_KEY, old_setting_name_and_words_text, old_word_or_same_value
 from pdsuite.scripts.settings import Settings, Value, settings_as_toml, sorted_settings
 
@@ -33,7 +34,7 @@ class Side:
         """The settings of its own option."""
         return sorted_settings(self.option.keys)
 
-    def common_and_own_setting_claims(self, common: Iterable[Claim]) -> list[Claim]:
+    def adapted_common_and_own_setting_claims(self, common: Iterable[Claim]) -> list[Claim]:
         """The claims for the sender: those that hold for both sides, but for what it lacks, and its own."""
         known = [it for it in common if it.key not in self.lacks]
         named = [
@@ -44,7 +45,7 @@ class Side:
         ]
         return [*named, *every_claim_of_layers([self.option])]
 
-    def effective_settings(self, given: Settings) -> Settings:
+    def adapted_given_and_own_settings(self, given: Settings) -> Settings:
         """The settings that hold here, where these are given."""
         here = {key: value for key, value in given if key not in self.lacks}
         named = {
@@ -55,14 +56,16 @@ class Side:
 
     def scripts_with_effective_settings(self, scripts: Iterable[SuiteScript]) -> list[SuiteScript]:
         """Scripts under the settings that hold here."""
-        return [it if it.fault else replace(it, settings=self.effective_settings(it.settings)) for it in scripts]
+        return [
+            it if it.fault else replace(it, settings=self.adapted_given_and_own_settings(it.settings)) for it in scripts
+        ]
 
     def with_keys_that_sender_accepts(
         self, common: Sequence[Claim], query: Callable[[list[Claim]], list[Refusal]]
     ) -> "Side":
         """The side as its sender takes it, which is queried until it refuses nothing, by the old names of keys too."""
         side = self
-        while refused := query(side.common_and_own_setting_claims(common)):
+        while refused := query(side.adapted_common_and_own_setting_claims(common)):
             side = side.with_refused_keys_dropped_or_renamed(refused, may_retry=True)
         return side
 
@@ -94,6 +97,27 @@ def make_side_named_with_settings(sender: Sender, text: str, option: str) -> Sid
     layer = layer_of_option(text, option)
     own = settings_as_toml(sorted_settings(layer.keys)).replace("\n", ", ")
     return Side(replace(sender, name=f"{sender.name} with {own}") if own else sender, layer)
+
+
+def sides_before_and_after_change(
+    base: str | None, base_settings: str, other: str | None, with_settings: str, room: Path
+) -> tuple[Side, Side]:
+    """The sender before the change, and the one after it; what is checked out goes into a folder.
+
+    Without a word the first is the sender that was proved last, and the second that of this tree.
+    """
+    before = (
+        last_proved_sender()
+        if base is None
+        else sender_of_folder_or_checked_out_commit(base, "--base", room / "before")
+    )
+    after = (
+        current_sender() if other is None else sender_of_folder_or_checked_out_commit(other, "--with", room / "after")
+    )
+    return (
+        make_side_named_with_settings(before, base_settings, BASE_OPTION),
+        make_side_named_with_settings(after, with_settings, WITH_OPTION),
+    )
 
 
 def refuse_commonly_lacked_keys(sides: Sequence[Side], claims: Iterable[Claim]) -> None:

@@ -1,27 +1,28 @@
 """Runs two senders on the same scripts: programs at once, and trees that `rt try` has to build side by side."""
 
 import os
-from collections.abc import Callable, Iterable, Mapping, Sequence
+from collections.abc import Callable, Collection, Iterable, Mapping, Sequence
 from concurrent.futures import ThreadPoolExecutor
-from dataclasses import dataclass
+from dataclasses import dataclass, replace
 from itertools import chain
 from pathlib import Path
 
 from pdsuite.compare.affected import RowStarts, tree_outputs_after_isolated_reruns, run_starts_on_programs
 from pdsuite.compare.comparison import SenderResults
 from pdsuite.compare.sides import Side, refuse_commonly_lacked_keys, note_renamed_and_lacking_keys
-from pdsuite.programs.batch_protocol import ProgramAnswer, ProcessOutput
+from pdsuite.programs.batch_protocol import ProgramAnswer, ProcessOutput, refuses_words
 from pdsuite.programs.locate import RECORD, REGRESS
 from pdsuite.programs.program import Program
-from pdsuite.programs.protocol import Cause
+from pdsuite.programs.protocol import LIST_RULES, Cause, RulesByLine
 from pdsuite.programs.recorder import Recorder, Recording
-from pdsuite.programs.refusals import query_refused_settings_retrying_once
+from pdsuite.programs.refusals import query_refused_settings_retrying_once, query_whether_words_are_known
 from pdsuite.programs.unproved_batch import ProgramCases, build_and_run_cases
+from pdsuite.programs.verdict import Verdict
 from pdsuite.run.batches import SuiteScript, batch_scripts_by_equal_settings
 from pdsuite.run.explainer import EXPLAIN_FAILURES
 from pdsuite.run.local_mapper import local_mapper
 from pdsuite.run.outcomes import ScriptOutcome
-from pdsuite.run.run_batches import SettledPiece
+from pdsuite.run.run_batches import SettledPiece, UnexplainedScript
 from pdsuite.run.unproved_run import (
     UnprovedPlan,
     UnprovedResults,
@@ -40,19 +41,25 @@ _OF_SCRIPTS = 2
 class ComparisonTask:
     """The task of both senders: which scripts they run, whether they record, and which rows they are run on.
 
-    The claims are those of both sides.
+    The claims are those of both sides. With `lists_rules` the rules that scripts come to are listed, too.
     """
 
     scripts: Sequence[SuiteScript]
     claims: Sequence[Claim]
     records: bool
     row_starts: RowStarts | None = None
+    lists_rules: bool = False
+
+    @property
+    def explain_options(self) -> tuple[str, ...]:
+        """The options by which a program explains scripts."""
+        return (LIST_RULES, *EXPLAIN_FAILURES) if self.lists_rules else EXPLAIN_FAILURES
 
     def make_unproved_script_plan_for_side(self, side: Side) -> UnprovedPlan:
         """The plan for a sender that has to be built: the claims and scripts that it is started on."""
         batches = batch_scripts_by_equal_settings(side.scripts_with_effective_settings(self.scripts))
         return load_scripts_and_make_plan(
-            batches, side.common_and_own_setting_claims(self.claims), EXPLAIN_FAILURES, self.records
+            batches, side.adapted_common_and_own_setting_claims(self.claims), self.explain_options, self.records
         )
 
 
@@ -60,7 +67,7 @@ def run_both_senders(
     sides: Sequence[Side], task: ComparisonTask, workers: int, stop: Stop, note: Callable[[str], None]
 ) -> list[SenderResults]:
     """The results of each sender, those of programs first. Each key that one of them lacks is reported once."""
-    found = [_proved_side_with_accepted_keys(it, task, stop) if it.sender.has_programs else it for it in sides]
+    found = [_side_of_programs_with_accepted_keys(it, task, stop) if it.sender.has_programs else it for it in sides]
     if all(it.sender.has_programs for it in sides):
         refuse_commonly_lacked_keys(found, task.claims)
     proved = _run_sides_with_programs_in_parallel(found, task, workers, stop, note)
@@ -102,7 +109,7 @@ class _UnprovedSides:
         cases = [self._script_and_row_cases_of_tree(side, plan) for side, plan in zip(sides, self._plans)]
         answers = iter(build_and_run_cases([it for each in cases for it in each], stop))
         self._answers = [[next(answers) for _ in each] for each in cases]
-        self._tried = [self._results_from_script_answers(*it) for it in zip(sides, self._plans, self._answers)]
+        self._tried = [self._script_results_rerunning_unanswered(*it) for it in zip(sides, self._plans, self._answers)]
         self.sides = [side.with_refused_keys_dropped_or_renamed(it.refused) for side, it in zip(sides, self._tried)]
 
     def collect_results_rerunning_refused(self) -> list[SenderResults]:
@@ -112,10 +119,10 @@ class _UnprovedSides:
     def _collect_result_rerunning_if_refused(
         self, side: Side, results: UnprovedResults, answers: Sequence[Sequence[ProgramAnswer]]
     ) -> SenderResults:
-        row_starts, tree = self._task.row_starts, side.sender.known_tree_to_build
+        row_starts, tree = self._task.row_starts, side.sender.asserted_tree_to_build
         if results.refused:
             plan = self._task.make_unproved_script_plan_for_side(side)
-            results = self._results_from_script_answers(
+            results = self._script_results_rerunning_unanswered(
                 side, plan, build_and_run_cases(plan.cases_for_claims_batches_and_recordings(tree), self._stop)
             )
         outputs = (
@@ -123,25 +130,28 @@ class _UnprovedSides:
             if row_starts
             else []
         )
-        return _merge_pieces_into_sender_results(results.settled, results.recordings, outputs)
+        rules = _rules_of_scripts_that_ran(results.settled) if results.lists_rules else None
+        return _merge_pieces_into_sender_results(results.settled, results.recordings, outputs, rules)
 
     def _script_and_row_cases_of_tree(self, side: Side, plan: UnprovedPlan) -> list[ProgramCases]:
         """The starts of a tree's programs: on the scripts, and then on the rows."""
-        row_starts, tree = self._task.row_starts, side.sender.known_tree_to_build
+        row_starts, tree = self._task.row_starts, side.sender.asserted_tree_to_build
         return [
             *plan.cases_for_claims_batches_and_recordings(tree),
             *(row_starts.cases_of_pdregress_and_pdrecord(tree) if row_starts else []),
         ]
 
-    def _results_from_script_answers(
+    def _script_results_rerunning_unanswered(
         self, side: Side, plan: UnprovedPlan, answers: Sequence[Sequence[ProgramAnswer]]
     ) -> UnprovedResults:
-        return results_after_rerunning_unanswered(
-            plan, answers[:_OF_SCRIPTS], side.sender.known_tree_to_build, self._stop, self._note
-        )
+        tree = side.sender.asserted_tree_to_build
+        if plan.lists_rules and refuses_words(answers[0][0].fault):
+            plan = replace(plan, explain_options=EXPLAIN_FAILURES)
+            answers = build_and_run_cases(plan.cases_for_claims_batches_and_recordings(tree), self._stop)
+        return results_after_rerunning_unanswered(plan, answers[:_OF_SCRIPTS], tree, self._stop, self._note)
 
 
-def _proved_side_with_accepted_keys(side: Side, task: ComparisonTask, stop: Stop) -> Side:
+def _side_of_programs_with_accepted_keys(side: Side, task: ComparisonTask, stop: Stop) -> Side:
     """A side of programs, without the keys that they lack."""
     program = _side_programs(side)[REGRESS]
     return side.with_keys_that_sender_accepts(
@@ -154,7 +164,10 @@ def _side_programs(side: Side) -> dict[str, Path]:
 
 
 def _merge_pieces_into_sender_results(
-    settled: Iterable[SettledPiece], recordings: Mapping[int, Recording], outputs: Sequence[ProcessOutput]
+    settled: Iterable[SettledPiece],
+    recordings: Mapping[int, Recording],
+    outputs: Sequence[ProcessOutput],
+    rules: Mapping[int, RulesByLine] | None,
 ) -> SenderResults:
     outcomes: dict[int, ScriptOutcome] = {}
     texts: dict[int, ScriptText] = {}
@@ -163,7 +176,19 @@ def _merge_pieces_into_sender_results(
         outcomes |= {script.index: outcome for script, outcome in it.outcomes}
         texts |= it.texts
         causes |= it.causes
-    return SenderResults(outcomes, texts, recordings, causes, outputs)
+    return SenderResults(outcomes, texts, recordings, causes, outputs, rules)
+
+
+def _rules_of_scripts_that_ran(
+    settled: Iterable[SettledPiece], unlisted: Collection[int] = ()
+) -> dict[int, RulesByLine]:
+    """The rules that scripts come to, by their places, but for those of which none could be listed."""
+    return {
+        script.index: it.rules.get(script.index, {})
+        for it in settled
+        for script, outcome in it.outcomes
+        if outcome.row.verdict is not Verdict.ERROR and script.index not in unlisted
+    }
 
 
 def _run_and_record_side_with_programs(
@@ -172,16 +197,22 @@ def _run_and_record_side_with_programs(
     """The results of programs."""
     programs = _side_programs(side)
     program = programs[REGRESS]
-    mapper = local_mapper(program, EXPLAIN_FAILURES, workers, stop)
+    if task.lists_rules and not query_whether_words_are_known(lambda: Program([program, LIST_RULES], stop)):
+        task = replace(task, lists_rules=False)
+    mapper = local_mapper(program, task.explain_options, workers, stop)
     settled: list[SettledPiece] = []
+    unlisted: list[int] = []
     for step in mapper(batch_scripts_by_equal_settings(side.scripts_with_effective_settings(task.scripts))):
         if isinstance(step, SettledPiece):
             settled.append(step)
-        else:
-            note(str(step))
+            continue
+        note(str(step))
+        if isinstance(step, UnexplainedScript):
+            unlisted.append(step.script.index)
     recordings = _record_scripts(programs[RECORD], settled, stop, note) if task.records else {}
     outputs = run_starts_on_programs(programs, task.row_starts, stop) if task.row_starts else []
-    return _merge_pieces_into_sender_results(settled, recordings, outputs)
+    rules = _rules_of_scripts_that_ran(settled, unlisted) if task.lists_rules else None
+    return _merge_pieces_into_sender_results(settled, recordings, outputs, rules)
 
 
 def _record_scripts(
@@ -195,7 +226,7 @@ def _record_scripts(
 
     def record_script_with_index(each: tuple[SuiteScript, ScriptText]) -> tuple[int, Recording]:
         script, text = each
-        return script.index, recorder.record_script_or_note_reason(script.path, text.octets, script.settings)
+        return script.index, recorder.record_script_or_return_and_note_reason(script.path, text.octets, script.settings)
 
     with ThreadPoolExecutor(len(os.sched_getaffinity(0))) as pool:
         return dict(pool.map(record_script_with_index, scripts))

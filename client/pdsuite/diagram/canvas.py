@@ -73,8 +73,8 @@ class Canvas:
         # Where the axes stand is known once the legend is.
         self.figure = Figure(figsize=(size.width / _DPI, 1), dpi=_DPI)
         self.figure.patch.set_visible(False)
-        self.octets = self._add_axes(size.octets)
-        self.windows = self._add_axes(size.windows)
+        self.octets = self._add_styled_axes_of_height(size.octets)
+        self.windows = self._add_styled_axes_of_height(size.windows)
         self.octets.set_ylim(self.low, self.high)
         self._label_axes(end >= _SECOND)
 
@@ -182,7 +182,7 @@ class Canvas:
         self._draw_labels_in_rows_above_axes(labels, below + size.windows + gap + size.octets, height)
         self._draw_legend()
 
-    def _add_axes(self, high: float) -> Axes:
+    def _add_styled_axes_of_height(self, high: float) -> Axes:
         axes = self.figure.add_axes((0, 0, 1, 1), label=str(high))
         axes.set_facecolor("none")
         axes.set_xlim(self.begin, self.end)

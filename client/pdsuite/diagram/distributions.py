@@ -20,7 +20,7 @@ _SIDES = (("flight", (0, (4, 2))), ("new", "-"))
 _WORDS = "Shares of the runs that are delivered after so long, before and after"
 
 
-def joined_distribution_svg_text(numbers: Sequence[Sequence[float]], names: Sequence[str], axis: str) -> str:
+def wide_and_narrow_distribution_svg_text(numbers: Sequence[Sequence[float]], names: Sequence[str], axis: str) -> str:
     """Two pictures of the numbers of both sides, of which a page shows the one that fits."""
     sizes = (("wide", _WIDTH, 9), ("narrow", _NARROW, 4))
     return "".join(_render_distribution_svg(numbers, names, axis, name, width, ticks) for name, width, ticks in sizes)

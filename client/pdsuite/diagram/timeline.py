@@ -114,12 +114,17 @@ def _arrivals_with_octet_and_flag(moments: Sequence[_Moment]) -> Iterator[Arriva
             is_duplicate = _is_duplicate_ack(packet, before, it.event)
             is_dropped = before is not None and _is_fin_or_rst_without_effect(flag, before, it.event)
             yield Arrival(
-                it.at, _acknowledged_octet_or_una(packet, before, it.event), flag, is_duplicate, it.is_later, is_dropped
+                it.at,
+                _acceptable_ack_number_or_una(packet, before, it.event),
+                flag,
+                is_duplicate,
+                it.is_later,
+                is_dropped,
             )
         before = it.event
 
 
-def _acknowledged_octet_or_una(packet: Packet, before: TracedEvent | None, after: TracedEvent) -> int:
+def _acceptable_ack_number_or_una(packet: Packet, before: TracedEvent | None, after: TracedEvent) -> int:
     """The number that a segment acknowledges, if it is from `una` to `top`; else `una`."""
     numbers = after if before is None or before.numeric_fact("una") is None else before
     una, top = numbers.numeric_fact("una") or 0, numbers.numeric_fact("top") or 0
@@ -202,13 +207,13 @@ def _all_notes_in_time_order(moments: Sequence[_Moment]) -> tuple[Note, ...]:
     found = (
         *_timeout_notes(moments),
         *_notes_where_recovery_begins(moments),
-        *_notes_of_dropped_flags(moments),
+        *_notes_of_dropped_fin_and_rst_arrivals(moments),
         *_note_of_first_reset(moments),
     )
     return tuple(sorted(found, key=lambda it: it.at))
 
 
-def _notes_of_dropped_flags(moments: Sequence[_Moment]) -> Iterator[Note]:
+def _notes_of_dropped_fin_and_rst_arrivals(moments: Sequence[_Moment]) -> Iterator[Note]:
     """A note for each FIN or RST that arrives and isn't taken."""
     for it in _arrivals_with_octet_and_flag(moments):
         if it.is_dropped:
@@ -226,16 +231,16 @@ def _timeout_notes(moments: Sequence[_Moment]) -> Iterator[Note]:
 
 
 def _notes_where_recovery_begins(moments: Sequence[_Moment]) -> Iterator[Note]:
-    for begin, _ in _recovery_begins_and_ends(moments):
+    for begin, _ in _begin_and_end_moments_of_recoveries(moments):
         yield Note(begin.at, _RECOVERY[begin.event.facts["recovery"]], begin.is_later)
 
 
 def _recovery_spans(moments: Sequence[_Moment]) -> Iterator[RecoverySpan]:
-    for begin, end in _recovery_begins_and_ends(moments):
+    for begin, end in _begin_and_end_moments_of_recoveries(moments):
         yield RecoverySpan(begin.at, end.at, begin.is_later)
 
 
-def _recovery_begins_and_ends(moments: Sequence[_Moment]) -> Iterator[tuple[_Moment, _Moment]]:
+def _begin_and_end_moments_of_recoveries(moments: Sequence[_Moment]) -> Iterator[tuple[_Moment, _Moment]]:
     """Where recoveries begin and end."""
     begin: _Moment | None = None
     for it in moments:

@@ -19,7 +19,7 @@ from pdsuite.imports.packets import (
     fixed_moments_of_items,
     packets_as_sent,
     script_smss_from_first_syn,
-    writes_before_items,
+    write_calls_before_each_item,
 )
 from pdsuite.imports.profile import MSS, mss_setting_of_header, header_tolerance, is_dropped_option, unsupported_reasons
 from pdsuite.imports.rewrite import Rewrite, apply_rewrites, comments_keeping_old_text_and_reasons
@@ -30,9 +30,9 @@ from pdsuite.imports.setup import (
     ParsedCommand,
     Setup,
     SetupWords,
-    merge_setup_words,
-    parse_command_text,
-    setup_from_lines,
+    union_of_setup_words,
+    parse_each_shell_command_in_text,
+    setup_from_kernel_header_lines_then_own,
 )
 from pdsuite.imports.slow_start import fitting_or_greatest_abc_limit, initial_window_octets
 from pdsuite.packetdrill.items import Call, Code, Command, HeaderOption, Item, Packet, Time
@@ -82,16 +82,16 @@ def convert_script(source: ImportSource, keep_packets: bool) -> Imported | NotIm
     reading = parse_items_until_syntax_error(source.text)
     spellings = _spellings_by_place(reading.items)
     items = [replace(it, what=spellings[n].call) if n in spellings else it for n, it in enumerate(reading.items)]
-    looked = _parse_commands(items, source.load)
+    looked = _parsed_commands_by_place(items, source.load)
     header = mss_setting_of_header(items)
     smss = script_smss_from_first_syn(items, _number_or_default({**DEFAULTS, **header, **(source.own or {})}, MSS))
     first = _place_of_first_packet_or_call(items)
     lines = [lines for number in range(first) if number in looked for lines in looked[number].lines]
-    setup = setup_from_lines(lines, max(smss, 1), header, source.own)
+    setup = setup_from_kernel_header_lines_then_own(lines, max(smss, 1), header, source.own)
     reasons = [*_reasons_of_items_and_setup(items, setup, looked), *_syntax_reasons(reading, source.text)]
     keeps = keep_packets or source.own is not None
     if not keeps:
-        reasons.extend(_too_many_events_reasons(items, smss))
+        reasons.extend(_too_many_packet_pieces_reasons(items, smss))
     if reasons:
         return NotImported(_first_reason_of_each_kind_by_line(reasons))
     tolerance = header_tolerance(items)
@@ -102,7 +102,7 @@ def convert_script(source: ImportSource, keep_packets: bool) -> Imported | NotIm
     text = apply_rewrites(source.text, [it for it, _ in rewrites])
     findings = tuple(finding for _, them in rewrites for finding in them)
     changed = sum(any(it.heading is Heading.CHANGED for it in them) for _, them in rewrites)
-    shared = merge_setup_words(it.shared for it in looked.values())
+    shared = union_of_setup_words(it.shared for it in looked.values())
     settings = sorted_settings(
         setup.settings if source.own is not None else _settings_with_fitting_abc_limit(setup.settings, items, smss)
     )
@@ -129,7 +129,9 @@ def _reasons_of_items_and_setup(
     yield from unsupported_reasons(items, setup.has_timestamps)
     yield from _reasons_for_times_not_carried(items)
     yield from (reason for it in looked.values() for reason in it.reasons)
-    yield from _send_buffer_reasons(items, _number_or_default({**DEFAULTS, **setup.settings}, "sndbuf"))
+    yield from _sndbuf_call_reasons_if_default_too_small(
+        items, _number_or_default({**DEFAULTS, **setup.settings}, "sndbuf")
+    )
 
 
 def _syntax_reasons(reading: Reading, text: str) -> Iterator[Reason]:
@@ -160,11 +162,11 @@ def _spellings_by_place(items: Sequence[Item]) -> dict[int, Spelling]:
     return {number: it for number, it in found.items() if it is not None}
 
 
-def _parse_commands(items: Sequence[Item], load: LoadSetup) -> dict[int, ParsedCommand]:
+def _parsed_commands_by_place(items: Sequence[Item], load: LoadSetup) -> dict[int, ParsedCommand]:
     """The parsed commands, by the places of the items."""
     first = _place_of_first_packet_or_call(items)
     return {
-        number: parse_command_text(
+        number: parse_each_shell_command_in_text(
             it.what.text, it.line, CommandPlace.SETUP if number < first else CommandPlace.MIDST, load
         )
         for number, it in enumerate(items)
@@ -180,7 +182,7 @@ def _first_reason_of_each_kind_by_line(reasons: Sequence[Reason]) -> tuple[Reaso
     return tuple(first.values())
 
 
-def _send_buffer_reasons(items: Sequence[Item], sndbuf: int) -> Iterator[Reason]:
+def _sndbuf_call_reasons_if_default_too_small(items: Sequence[Item], sndbuf: int) -> Iterator[Reason]:
     """A send buffer that the default can't stand for, since more is written."""
     written_octets = sum(octets_to_write_or_zero(it.what) for it in items if isinstance(it.what, Call))
     for item in items:
@@ -190,7 +192,7 @@ def _send_buffer_reasons(items: Sequence[Item], sndbuf: int) -> Iterator[Reason]
             )
 
 
-def _too_many_events_reasons(items: Sequence[Item], smss: int) -> Iterator[Reason]:
+def _too_many_packet_pieces_reasons(items: Sequence[Item], smss: int) -> Iterator[Reason]:
     """Packets that become more than a script may hold."""
     count = 0
     for item in items:
@@ -263,7 +265,7 @@ class _Known:
 def _rewrites_of_items(text: str, items: Sequence[Item], known: _Known) -> Iterator[Rewritten]:
     """The rewrites of the items that don't stay as they are, with their findings."""
     moments = fixed_moments_of_items(items)
-    writes = writes_before_items(items, moments)
+    writes = write_calls_before_each_item(items, moments)
     first = _place_of_first_packet_or_call(items)
     carried = _NOW
     for number, item in enumerate(items):
@@ -273,16 +275,16 @@ def _rewrites_of_items(text: str, items: Sequence[Item], known: _Known) -> Itera
             case HeaderOption():
                 if is_dropped_option(item.what):
                     words = "where packets are sent"
-                    yield _drop_item(item, old, [words], [Finding(Heading.DROPPED, words)])
+                    yield _drop_item_keeping_it_as_comment(item, old, [words], [Finding(Heading.DROPPED, words)])
                 elif item.what.name == MSS:
-                    yield _drop_item(item, old, [f"{_SETTINGS}{MSS}"], [])
+                    yield _drop_item_keeping_it_as_comment(item, old, [f"{_SETTINGS}{MSS}"], [])
             case Command():
                 yield _drop_command(item, old, known.looked[number], number < first)
             case Code():
                 yield _drop_code_keeping_assertions(item, old, item.what)
             case Call() if sets_send_buffer(item.what):
                 words = "SO_SNDBUF: the default holds all that is written"
-                yield _drop_item(item, old, [words], [Finding(Heading.DROPPED, "SO_SNDBUF")])
+                yield _drop_item_keeping_it_as_comment(item, old, [words], [Finding(Heading.DROPPED, "SO_SNDBUF")])
             case Call() if number in known.spellings:
                 yield _respell_call(text, item, old, time or _NOW, known.spellings[number])
             case Packet() if not item.what.is_inbound and known.smss is not None:
@@ -295,7 +297,9 @@ def _rewrites_of_items(text: str, items: Sequence[Item], known: _Known) -> Itera
             carried = time if _is_command_code_or_send_buffer_call(item.what) else _NOW
 
 
-def _drop_item(item: Item, old: str, reasons: Sequence[str], findings: Sequence[Finding]) -> Rewritten:
+def _drop_item_keeping_it_as_comment(
+    item: Item, old: str, reasons: Sequence[str], findings: Sequence[Finding]
+) -> Rewritten:
     return Rewrite(item.start, item.end, (), comments_keeping_old_text_and_reasons("dropped", old, reasons)), tuple(
         findings
     )
@@ -313,8 +317,10 @@ def _drop_command(item: Item, old: str, looked: ParsedCommand, is_setup: bool) -
         if words:
             reasons.append(begin + ", ".join(words))
     heading = Heading.SETUP if is_setup else Heading.DROPPED
-    findings = [Finding(heading, it) for it in looked.dropped_words]
-    return _drop_item(item, old, reasons or [RUN], findings or ([] if is_setup else [Finding(heading, RUN)]))
+    findings = [Finding(heading, it) for it in looked.words_for_parts_without_setting]
+    return _drop_item_keeping_it_as_comment(
+        item, old, reasons or [RUN], findings or ([] if is_setup else [Finding(heading, RUN)])
+    )
 
 
 def _drop_code_keeping_assertions(item: Item, old: str, code: Code) -> Rewritten:

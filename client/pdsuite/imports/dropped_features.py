@@ -37,7 +37,7 @@ def dropped_feature_explaining_failure(events: Sequence[Event], place: int, kind
     past = _History()
     for before in events[:place]:
         past.take_event(before)
-    is_paced = is_early and packet.start >= past.top and not past.is_repairing_loss
+    is_paced = is_early and packet.start >= past.top and not past.is_repairing_loss_since_resend
     return _PACING if is_paced else _feature_sending_data(packet, past, _is_later_than_event_before(event))
 
 
@@ -46,11 +46,11 @@ def _feature_sending_data(packet: Packet, past: "_History", waits: bool) -> str 
     is_again = packet.start < past.top
     if waits and past.una < past.top:
         return _TLP if packet.end >= past.top else _RACK
-    if is_again and not past.is_repairing_loss:
+    if is_again and not past.is_repairing_loss_since_resend:
         return _RACK if max(past.duplicates, past.blocks) < _DUPLICATES else _CONTROL
     if past.has_expired and not is_again:
         return _FRTO
-    return _CONTROL if past.is_repairing_loss else None
+    return _CONTROL if past.is_repairing_loss_since_resend else None
 
 
 def _is_later_than_event_before(event: Event) -> bool:
@@ -71,7 +71,7 @@ class _History:
     has_expired: bool = False
 
     @property
-    def is_repairing_loss(self) -> bool:
+    def is_repairing_loss_since_resend(self) -> bool:
         """Whether a loss is repaired."""
         return self.una < self.lost
 
@@ -95,4 +95,4 @@ class _History:
             self.duplicates += self.una < self.top
             return
         self.una, self.duplicates = packet.ack, 0
-        self.has_expired = self.has_expired and self.is_repairing_loss
+        self.has_expired = self.has_expired and self.is_repairing_loss_since_resend

@@ -58,7 +58,7 @@ def fixed_moments_of_items(items: Sequence[Item]) -> list[int | None]:
     return moments
 
 
-def writes_before_items(items: Sequence[Item], moments: Sequence[int | None]) -> list[tuple[Write, ...]]:
+def write_calls_before_each_item(items: Sequence[Item], moments: Sequence[int | None]) -> list[tuple[Write, ...]]:
     """The writes before each item, as far as their calls took octets."""
     writes: tuple[Write, ...] = ()
     before = []

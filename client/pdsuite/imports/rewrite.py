@@ -24,7 +24,7 @@ def apply_rewrites(text: str, rewrites: Iterable[Rewrite]) -> str:
     place = 0
     for it in rewrites:
         parts.append(text[place : it.start])
-        indent = indent_of(text, it.start)
+        indent = indent_if_only_blanks_before_place(text, it.start)
         lines = [*it.lines, *it.comments]
         parts.append("\n".join([lines[0], *(indent + line for line in lines[1:])]))
         if not _REST.match(text, it.end):
@@ -34,7 +34,7 @@ def apply_rewrites(text: str, rewrites: Iterable[Rewrite]) -> str:
     return "".join(parts)
 
 
-def indent_of(text: str, place: int) -> str:
+def indent_if_only_blanks_before_place(text: str, place: int) -> str:
     """The blanks that the line of a place begins with, where nothing else stands before it."""
     begin = text.rfind("\n", 0, place) + 1
     found = _BLANKS.match(text, begin, place)

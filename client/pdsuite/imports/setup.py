@@ -85,13 +85,13 @@ class ParsedCommand:
     reasons: tuple[Reason, ...]
 
     @property
-    def dropped_words(self) -> tuple[str, ...]:
+    def words_for_parts_without_setting(self) -> tuple[str, ...]:
         """The words for all of it that no setting stands for."""
         own, shared = self.own, self.shared
         return tuple(dict.fromkeys((*own.features, *shared.features, *own.alike, *shared.alike)))
 
 
-def parse_command_text(text: str, line: int, place: CommandPlace, load: LoadSetup) -> ParsedCommand:
+def parse_each_shell_command_in_text(text: str, line: int, place: CommandPlace, load: LoadSetup) -> ParsedCommand:
     """Parses the commands of a text, each by itself."""
     lines = tuple(_setup_lines_with_defaults_file_inlined(text, line, load))
     found = [(it, _meaning_of_setup_command(it.command, place)) for it in lines]
@@ -112,7 +112,7 @@ def _words_of_meanings(meanings: Sequence[SwitchMeaning]) -> SetupWords:
     return SetupWords(words[Use.SETTING], words[Use.FEATURE], words[Use.ALIKE])
 
 
-def merge_setup_words(each: Iterable[SetupWords]) -> SetupWords:
+def union_of_setup_words(each: Iterable[SetupWords]) -> SetupWords:
     """The words of several together, each once."""
     words = list(each)
     return SetupWords(
@@ -148,7 +148,7 @@ def _shown_command(command: SetupCommand) -> str:
             return " ".join(words)
 
 
-def setup_from_lines(
+def setup_from_kernel_header_lines_then_own(
     lines: Iterable[SetupLine], smss: int, header: Mapping[str, Value], own: Mapping[str, Value] | None
 ) -> Setup:
     """The settings that commands lead to, one after another, after those of the header.
@@ -184,11 +184,11 @@ def _setup_lines_with_defaults_file_inlined(text: str, line: int, load: LoadSetu
         except UnfitTextError as unfit:
             yield SetupLine(line, Other((command.path, f"({unfit})")))
             continue
-        for other in setup_commands_in(_without_comments(inside)):
+        for other in setup_commands_in(_text_with_hash_comment_lines_blanked(inside)):
             yield SetupLine(line, other, is_shared=True)
 
 
-def _without_comments(text: str) -> str:
+def _text_with_hash_comment_lines_blanked(text: str) -> str:
     return "\n".join("" if line.lstrip().startswith("#") else line for line in text.splitlines())
 
 
@@ -208,10 +208,12 @@ def _settings_of_switches(switches: Mapping[str, tuple[str, int]], is_kernel: bo
             yield _setting_or_reason_if_out_of_range(
                 found.words, _parsed_number_times_factor(value, factor), f"{name}={value}", line
             )
-    yield from _wscale_of_buffers(switches, is_kernel)
+    yield from _wscale_of_kernel_receive_buffers(switches, is_kernel)
 
 
-def _wscale_of_buffers(switches: Mapping[str, tuple[str, int]], is_kernel: bool) -> Iterator[Setting | Reason]:
+def _wscale_of_kernel_receive_buffers(
+    switches: Mapping[str, tuple[str, int]], is_kernel: bool
+) -> Iterator[Setting | Reason]:
     """The shift count that a kernel's buffers lead to."""
     greatest = [USUAL_RMEM] if _RMEM not in switches else []
     for name, least in ((_RMEM, 3), (_RMEM_MAX, 1)):

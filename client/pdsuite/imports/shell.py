@@ -43,6 +43,8 @@ _FILE = "defaults.sh"
 _PRODUCT = re.compile(r"\$\(\([ \t]*([0-9]{1,18}(?:[ \t]*\*[ \t]*[0-9]{1,18}){0,7})[ \t]*\)\)")
 _GOES_ON = re.compile(r"\\\r?\n")
 _SIGNS = ";&|<>"
+# What is quoted, or else a descriptor: a word 1 or 2 directly before `>`.
+_QUOTED_OR_DESCRIPTOR = re.compile(r"""('[^']*'|"(?:[^"\\]|\\.)*"|\\.)|(?<![^\s;])[12](?=>)""")
 # The words that end a command. The next one is read as well, whatever would come of the first.
 _ENDS = (";", "&&")
 _UNREAD = re.compile(r"[$`(){}*?~\[\]\\]")
@@ -61,7 +63,7 @@ _METRICS = ("initcwnd", "rto_min")
 def setup_commands_in(text: str) -> Iterator[SetupCommand]:
     """The commands of a text for the shell, one after another."""
     for line in _GOES_ON.sub(" ", text).split("\n"):
-        for words in _split_into_commands(line):
+        for words in _split_line_into_commands_or_keep_whole(line):
             yield from _parse_command(words)
 
 
@@ -72,14 +74,15 @@ def _multiply_factors(factors: str) -> int:
     return result
 
 
-def _split_into_commands(line: str) -> Iterator[tuple[str, ...]]:
+def _split_line_into_commands_or_keep_whole(line: str) -> Iterator[tuple[str, ...]]:
     """The words of each command of a line, without what sends output to nowhere."""
     # Within such quotes the shell takes a `$` for no more than itself.
     if "'" in line and "$" in line:
         yield (line.strip(),)
         return
     products = _PRODUCT.sub(lambda found: str(_multiply_factors(found[1])), line)
-    lexer = shlex.shlex(products, posix=True, punctuation_chars=_SIGNS)
+    without_descriptors = _QUOTED_OR_DESCRIPTOR.sub(lambda found: found[1] or "", products)
+    lexer = shlex.shlex(without_descriptors, posix=True, punctuation_chars=_SIGNS)
     lexer.whitespace_split = True
     try:
         words = _without_redirections_to_dev_null(list(lexer))
@@ -99,18 +102,15 @@ def _split_into_commands(line: str) -> Iterator[tuple[str, ...]]:
 
 
 def _without_redirections_to_dev_null(words: list[str]) -> list[str]:
-    """The words without `> /dev/null` and `2>&1`, which change nothing of what a command does."""
+    """The words without `> /dev/null` and `>&1`, which change nothing of what a command does."""
     kept: list[str] = []
     rest = iter(words)
     for word in rest:
         if word not in (">", ">&", "&>", ">>"):
             kept.append(word)
             continue
-        target = next(rest, "")
-        if target not in ("/dev/null", "1", "2"):
+        if next(rest, "") not in ("/dev/null", "1", "2"):
             return words
-        if word != "&>" and kept and kept[-1] in ("1", "2"):
-            kept.pop()
     return kept
 
 
@@ -120,17 +120,17 @@ def _parse_command(words: tuple[str, ...]) -> Iterator[SetupCommand]:
     commands: list[SetupCommand] | None = None
     if not any(map(_UNREAD.search, words)):
         if name in _SYSCTL:
-            commands = _parse_switches([it for it in rest if it not in _SYSCTL_FLAGS])
+            commands = _parse_switches_if_all_words_assign([it for it in rest if it not in _SYSCTL_FLAGS])
         elif PurePosixPath(name).name == "set_sysctls.py":
-            commands = _parse_switches(rest) if all(it.startswith(_PROC) for it in rest) else None
+            commands = _parse_switches_if_all_words_assign(rest) if all(it.startswith(_PROC) for it in rest) else None
         elif name in _IP and rest[:1] in (["route"], ["ro"], ["r"]):
-            commands = _parse_route_metrics(rest[1:])
+            commands = _parse_route_metrics_if_all_words_known(rest[1:])
         elif PurePosixPath(name).name == _FILE and not rest and not name.startswith("/"):
             commands = [Defaults(name)]
     yield from commands or [Other(words)]
 
 
-def _parse_switches(words: list[str]) -> list[SetupCommand] | None:
+def _parse_switches_if_all_words_assign(words: list[str]) -> list[SetupCommand] | None:
     found = [_ASSIGNED.fullmatch(it) for it in words]
     return [Switch(_dotted_switch_name(it[1]), " ".join(it[2].split())) for it in found if it] if all(found) else None
 
@@ -145,7 +145,7 @@ def _dotted_switch_name(name: str) -> str:
     return name
 
 
-def _parse_route_metrics(words: list[str]) -> list[SetupCommand] | None:
+def _parse_route_metrics_if_all_words_known(words: list[str]) -> list[SetupCommand] | None:
     """The metrics of a route, where it has one that is read and none that isn't."""
     if not words or words[0] not in _ROUTE_VERBS:
         return None

@@ -5,7 +5,7 @@ import os
 import textwrap
 from collections.abc import Iterator, Mapping, Sequence
 
-from pdsuite.imports.setup import SetupWords, merge_setup_words
+from pdsuite.imports.setup import SetupWords, union_of_setup_words
 from pdsuite.scripts.config import CONFIG_FILE
 from pdsuite.scripts.settings import Settings, settings_as_toml
 
@@ -25,12 +25,16 @@ def settings_files_of(scripts: Mapping[str, tuple[Settings, SetupWords]]) -> Ite
         if settings:
             folders.setdefault(folder, []).append((name, settings, shared))
     for folder, tables in folders.items():
-        head = _HEAD + _setup_comments(merge_setup_words(it for _, _, it in tables)) + ("" if folder else _ROOT)
+        head = (
+            _HEAD
+            + _head_comments_of_shared_setup_words(union_of_setup_words(it for _, _, it in tables))
+            + ("" if folder else _ROOT)
+        )
         text = head + "".join(table_of_script(name, settings) for name, settings, _ in tables)
         yield os.path.join(folder, CONFIG_FILE), text.encode()
 
 
-def _setup_comments(shared: SetupWords) -> str:
+def _head_comments_of_shared_setup_words(shared: SetupWords) -> str:
     """The words of a set-up that no setting stands for, as comments."""
     return _wrap_comment("Of what defaults.sh says, this sender hasn't: ", shared.features) + _wrap_comment(
         "As defaults.sh says, this sender has: ", shared.alike

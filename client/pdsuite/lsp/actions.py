@@ -151,11 +151,11 @@ def _broken_off_event_line_or_line_count(failing: FailingScript) -> int:
         return failing.lines.line_count
     text = failing.lines.text
     end = failing.layout.items[-1].item.end if failing.layout.items else 0
-    token = next(_token_starts(text, end), None)
+    token = next(_token_starts_from_place_to_syntax_fault(text, end), None)
     return failing.lines.line_count if token is None else failing.lines.line_of(token)
 
 
-def _token_starts(text: str, start: int) -> Iterator[int]:
+def _token_starts_from_place_to_syntax_fault(text: str, start: int) -> Iterator[int]:
     """Where the tokens of a text begin from a place on, up to where none does."""
     try:
         yield from (start + it.start for it in tokens_of(text[start:]))
@@ -199,7 +199,7 @@ def actions_recording_unmatched_outputs(failing: FailingScript, mended: str, rec
     yield from record_all_actions(failing, recording)
 
 
-def record_from_here_actions(failing: FailingScript, recording: str) -> Iterator[CodeAction]:
+def actions_recording_from_failing_event_on(failing: FailingScript, recording: str) -> Iterator[CodeAction]:
     """Actions that keep the text before the event, and record the rest: its first time as it is, a moment or `*`."""
     event, events = failing.event, failing.layout.packets_and_calls
     recorded = recorded_events_in(recording)
@@ -258,7 +258,7 @@ def _text_with_extent_replaced(text: str, place: Extent, put: str) -> str:
     return text[: place.start] + put + text[place.end :]
 
 
-def minimal_whole_line_edits_to_text(lines: DocumentLines, text: str) -> list[Json]:
+def single_whole_line_edit_to_text(lines: DocumentLines, text: str) -> list[Json]:
     """The edit that makes another text: what lies between equal first and equal last characters, in whole lines."""
     old = lines.text
     most = min(len(old), len(text))
@@ -266,11 +266,11 @@ def minimal_whole_line_edits_to_text(lines: DocumentLines, text: str) -> list[Js
     front = old.rfind("\n", 0, front) + 1
     most -= front
     back = next((it for it in range(most) if old[-1 - it] != text[-1 - it]), most)
-    back -= _equal_end_length_in_changed_line(old, text, len(old) - back)
+    back -= _length_to_line_end_unless_at_line_begin(old, text, len(old) - back)
     return [text_edit_json(lines, front, len(old) - back, text[front : len(text) - back])]
 
 
-def _equal_end_length_in_changed_line(old: str, text: str, end: int) -> int:
+def _length_to_line_end_unless_at_line_begin(old: str, text: str, end: int) -> int:
     """How much of what is equal at the end belongs to a line that isn't."""
     if end == 0 or old[end - 1 : end] == "\n":
         return 0

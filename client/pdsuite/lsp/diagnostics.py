@@ -8,11 +8,12 @@ from pdsuite.lsp.json_values import Json
 from pdsuite.lsp.positions import DocumentLines
 from pdsuite.packetdrill.layout import Event, Layout
 from pdsuite.packetdrill.lines import Extent
-from pdsuite.packetdrill.recorded import last_input_before_moment
+from pdsuite.packetdrill.recorded import last_script_input_due_before_moment
 from pdsuite.programs.cause_text import (
     WORDS,
     dropped_segment_lines_and_rules,
-    packet_with_origin_line_or_timer,
+    has_rule,
+    packet_with_origin_and_rule,
     unmatched_packets_with_origins,
     value_in_words_without_unit,
 )
@@ -92,9 +93,17 @@ def diagnostics_of(
 
 def with_unmatched_packets(diagnostic: Diagnostic, layout: Layout, cause: Cause) -> Diagnostic:
     """The diagnostic with the packets that stay unmatched, each at the event after which it left."""
-    found = [(_sending_event(it, layout), packet) for packet, it in unmatched_packets_with_origins(cause)]
+    found = [
+        (_sending_event(origin, layout), _packet_with_origin_if_rule_is_known(packet, origin))
+        for packet, origin in unmatched_packets_with_origins(cause)
+    ]
     related = [Related(event.extent, f"untaken packet: {packet}") for event, packet in found if event is not None]
     return replace(diagnostic, related=tuple(related))
+
+
+def _packet_with_origin_if_rule_is_known(packet: str, origin: object) -> str:
+    """A packet with what sent it, by which rule; alone where no rule is named, since its place says what sent it."""
+    return packet_with_origin_and_rule(packet, origin) if has_rule(origin) else packet
 
 
 def _sending_event(origin: object, layout: Layout) -> Event | None:
@@ -103,7 +112,7 @@ def _sending_event(origin: object, layout: Layout) -> Event | None:
         case {"line": int(line)}:
             return next((it for it in layout.packets_and_calls if it.item.line == line and it.is_input), None)
         case {"timer_us": int(moment)}:
-            return last_input_before_moment(layout.packets_and_calls, moment)
+            return last_script_input_due_before_moment(layout.packets_and_calls, moment)
     return None
 
 
@@ -134,7 +143,7 @@ def _cause_fact_lines(cause: Mapping[str, object]) -> Iterator[str]:
         if key in cause and key not in _LEFT_OUT:
             value = _shown_value(key, cause[key])
             if key == "actual_packet":
-                value = packet_with_origin_line_or_timer(value, cause.get("sent_by"))
+                value = packet_with_origin_and_rule(value, cause.get("sent_by"))
             yield f"{words}: {value}"
     for it in dropped_segment_lines_and_rules(cause):
         yield f"dropped: {it}"

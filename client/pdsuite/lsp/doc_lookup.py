@@ -31,7 +31,7 @@ def _read_doc_page(name: str) -> str:
         return ""
 
 
-def doc_of_packet_or_header_field(name: str) -> str:
+def doc_of_packet_field_or_script_header(name: str) -> str:
     """The line of SCRIPTS.md about a field of a packet, or about the header."""
     begin = _FIELDS.get(name)
     found = [it for it in _read_doc_page("SCRIPTS.md").splitlines() if begin and it.startswith(begin)]

@@ -5,12 +5,12 @@ from dataclasses import dataclass
 
 from pdsuite.compare.comparison import ComparedScript
 from pdsuite.lsp import doc_lookup
-from pdsuite.lsp.actions import CodeAction, FailingScript, minimal_whole_line_edits_to_text, leads_past_failing_line
+from pdsuite.lsp.actions import CodeAction, FailingScript, single_whole_line_edit_to_text, leads_past_failing_line
 from pdsuite.lsp.actions import (
     commenting_out_actions,
     mend_all_actions,
     record_all_actions,
-    record_from_here_actions,
+    actions_recording_from_failing_event_on,
     actions_recording_unmatched_outputs,
 )
 from pdsuite.lsp.actions import actions_taking_actual_packet_or_result
@@ -22,7 +22,7 @@ from pdsuite.lsp.completion import (
 )
 from pdsuite.lsp.diagnostics import Diagnostic, diagnostics_of, with_unmatched_packets
 from pdsuite.lsp.documents import Document
-from pdsuite.lsp.hover import hover_of_event
+from pdsuite.lsp.hover import Hover, hover_of_event, rules_of_line_as_list
 from pdsuite.lsp.json_values import Json
 from pdsuite.lsp.positions import Position
 from pdsuite.lsp.queries import ProgramQueries
@@ -59,11 +59,12 @@ class Offer:
 
 @dataclass(frozen=True)
 class _Played:
-    """A script's recording: its text, its events, and those of the script that it is of."""
+    """A script's recording: its text, its events, and those of the script that it is of; and the text of that."""
 
     text: str
     recorded: tuple[RecordedEvent, ...]
     events: Sequence[Event]
+    script: str
 
 
 class LanguageFeatures:
@@ -93,29 +94,31 @@ class LanguageFeatures:
         found = list(diagnostics_of(result.outcome, result.cause, layout, document.lines))
         return [with_unmatched_packets(it, layout, result.cause or _NO_CAUSE) for it in found]
 
-    def hover(self, document: Document, result: Result | None, position: Position) -> tuple[str, Extent] | None:
-        """The words of the hover at a place, and the extent that they are about."""
+    def hover(self, document: Document, result: Result | None, position: Position) -> Hover | None:
+        """The hover at a place, where there is anything to say."""
         offset = document.lines.offset_of(position)
         if path_if_settings_uri(document.uri):
             key = key_at_line(document.lines, document.lines.line_of(offset))
             words = doc_lookup.doc_of_setting(key) if key else ""
-            return (words, document.lines.line_extent_after_indent(document.lines.line_of(offset))) if words else None
+            extent = document.lines.line_extent_after_indent(document.lines.line_of(offset))
+            return Hover(words, extent) if words else None
         event = self.layout_of_document(document).item_at(offset)
         if event is None:
             return None
-        words = hover_of_event(event, offset, *self._matched_events_and_recording(document, result))
-        return (words, event.extent) if words else None
-
-    def _matched_events_and_recording(
-        self, document: Document, result: Result | None
-    ) -> tuple[list[MatchedEvent], str]:
         if result is None or result.text is None:
-            return [], ""
+            words = hover_of_event(event, offset, [], "")
+            return Hover(words, event.extent) if words else None
         played = self._record_playable_part(document, result)
+        words = hover_of_event(event, offset, self._match_events_to_recording(document, result, played), played.text)
+        rules = self.queries.script_rules_maybe_empty(played.script, result.outcome.settings)
+        found = Hover(words, event.extent, rules_of_line_as_list(event.item.line, rules))
+        return found if found.words or found.rules else None
+
+    def _match_events_to_recording(self, document: Document, result: Result, played: _Played) -> list[MatchedEvent]:
         layout = self.layout_of_document(document)
         passed = _passed_event_count(layout, result.outcome.row, result.cause)
         allowed = tolerance_from_header_or_settings(layout.items, tolerance_us_of_settings(result.outcome.settings))
-        return list(match_events(played.events, played.recorded, passed, allowed)), played.text
+        return list(match_events(played.events, played.recorded, passed, allowed))
 
     def _record_playable_part(self, document: Document, result: Result) -> _Played:
         """The recording of a script, or of as much of it as can be recorded."""
@@ -123,8 +126,9 @@ class LanguageFeatures:
         for text in dict.fromkeys(_recordable_texts_longest_first(layout, result)):
             recording = self.queries.script_recording_maybe_empty(text, result.outcome.settings).text
             if recorded := recorded_events_in(recording):
-                return _Played(recording, recorded, [it for it in layout.packets_and_calls if it.item.end <= len(text)])
-        return _Played("", (), ())
+                events = [it for it in layout.packets_and_calls if it.item.end <= len(text)]
+                return _Played(recording, recorded, events, text)
+        return _Played("", (), (), layout.text)
 
     def actions_tested_to_lead_past_failure(self, document: Document, result: Result, places: Extent) -> list[Offer]:
         """The offers for a script whose failing line, or warning, lies there; by a run each leads past it."""
@@ -139,7 +143,7 @@ class LanguageFeatures:
         good = [it for it, after in zip(each, rows) if after is not None and leads_past_failing_line(it, row, after)]
         first = {it.title: it for it in reversed(good)}
         return [
-            Offer(it, minimal_whole_line_edits_to_text(document.lines, it.text)) for it in good if first[it.title] is it
+            Offer(it, single_whole_line_edit_to_text(document.lines, it.text)) for it in good if first[it.title] is it
         ]
 
     def _candidate_actions(self, failing: FailingScript, result: Result) -> Iterator[CodeAction]:
@@ -153,7 +157,7 @@ class LanguageFeatures:
         yield from actions_taking_actual_packet_or_result(failing)
         if failing.row.verdict is Verdict.FAIL:
             recording = self.queries.script_recording_maybe_empty(failing.lines.text, settings).text
-            yield from record_from_here_actions(failing, recording)
+            yield from actions_recording_from_failing_event_on(failing, recording)
             yield from mend_all_actions(failing, self.queries.mended_script_or_empty(failing.lines.text, settings))
             yield from record_all_actions(failing, recording)
         yield from commenting_out_actions(failing)

@@ -1,16 +1,32 @@
-"""The hover at a place in a script: what was sent there, how the sender stands after it, and what documents say."""
+"""The hover at a place in a script: what was sent there, how the sender stands after it, and what documents say.
+
+Below that it has the rules of the sender that the events of the line come to.
+"""
 
 import re
 from collections.abc import Iterator, Mapping, Sequence
+from dataclasses import dataclass
 
 from pdsuite.lsp import doc_lookup
 from pdsuite.packetdrill.items import SECOND, Call, HeaderOption
 from pdsuite.packetdrill.layout import Event
+from pdsuite.packetdrill.lines import Extent
 from pdsuite.packetdrill.recorded import MatchedEvent, RecordedEvent, SenderState
+from pdsuite.programs.protocol import RulesByLine
+from pdsuite.rules.rule_list import load_sender_rules
 
 _MARKS = re.compile(r"^```.*\n?|`|\*\*", re.MULTILINE)
 _FIELDS = ("flags", "options", "ack", "win", "seq")
 _TIMER = "timer"
+
+
+@dataclass(frozen=True)
+class Hover:
+    """The hover at a place, in Markdown: words about an extent, and the rules of the sender at its line."""
+
+    words: str
+    extent: Extent
+    rules: str = ""
 
 
 def hover_of_event(event: Event, offset: int, met: Sequence[MatchedEvent], recording: str) -> str:
@@ -85,17 +101,26 @@ def _doc_of_place(event: Event, offset: int) -> str:
     """The line of the documents about the header option, the call or the field at a place."""
     what = event.item.what
     if isinstance(what, HeaderOption):
-        return doc_lookup.doc_of_packet_or_header_field("header")
+        return doc_lookup.doc_of_packet_field_or_script_header("header")
     if isinstance(what, Call):
         return doc_lookup.doc_of_call(what.name) if offset in event.field_extents["call"] else ""
     return next(
         (
-            doc_lookup.doc_of_packet_or_header_field(it)
+            doc_lookup.doc_of_packet_field_or_script_header(it)
             for it in _FIELDS
             if it in event.field_extents and offset in event.field_extents[it]
         ),
         "",
     )
+
+
+def rules_of_line_as_list(line: int, rules: RulesByLine) -> str:
+    """The rules that the events of a line come to, each with its words, in Markdown; empty where they come to none."""
+    names = rules.get(line, ())
+    if not names:
+        return ""
+    words = {it.name: f": {it.words}" for it in load_sender_rules()}
+    return "\n".join([f"Rules of the sender at line {line}:", *(f"- `{it}`{words.get(it, '')}" for it in names)])
 
 
 def strip_markdown(words: str) -> str:

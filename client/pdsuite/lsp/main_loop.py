@@ -18,7 +18,11 @@ from pdsuite.lsp.server import FAILED, Server, first_root_or_working_folder
 from pdsuite.lsp.transport import Transport
 from pdsuite.lsp.workspace import Workspace
 from pdsuite.programs.locate import RECORD, REGRESS
-from pdsuite.programs.lookup import SenderChangedError, find_own_tree_if_buildable, client_programs_lookup
+from pdsuite.programs.lookup import (
+    SenderChangedError,
+    find_client_or_launcher_tree_if_buildable,
+    client_programs_lookup,
+)
 from pdsuite.scripts.config import every_claim_of_layers, layer_of_option
 from pdsuite.signals import Stop, StoppedError
 from pdsuite.watch.folders import Folders, WatchChoice
@@ -49,9 +53,9 @@ class EventLoop:
         self._stop = stop
         self._held = ExitStack()
         self._watcher: Watcher | None = None
-        self._server = Server(self._start_session)
+        self._server = Server(self._start_session_in_place_of_former)
         self._follower = SenderFollower(
-            client_programs_lookup(REGRESS, RECORD), (REGRESS, RECORD), find_own_tree_if_buildable()
+            client_programs_lookup(REGRESS, RECORD), (REGRESS, RECORD), find_client_or_launcher_tree_if_buildable()
         )
         self._sources = Watcher()
         self._proof = RefusedProof(self._follower.tree)
@@ -81,7 +85,7 @@ class EventLoop:
             self._held.close()
             self._follower.close()
 
-    def _look_for_changed_sender_if_due(self) -> None:
+    def _look_at_sender_and_switch_session_if_due(self) -> None:
         """Looks at which sender stands, where a file of it may have changed: as reported, and from time to time."""
         events, now = self._sources.read_events(), time.monotonic()
         server, follower = self._server, self._follower
@@ -89,7 +93,7 @@ class EventLoop:
         if not server.is_ready or not (events or is_due):
             return
         self._looked_at = now
-        has_changed = follower.update_sender_returning_whether_changed(now)
+        has_changed = follower.update_returning_if_sender_or_reason_changed(now)
         self._sources.watch_folders_or_return_limit(follower.folders_to_watch())
         if server.session is None or has_changed and follower.sender != server.session.sender:
             self._begin_session_or_await_build()
@@ -101,7 +105,7 @@ class EventLoop:
         if self._follower.sender is None and self._follower.tree is not None:
             self._server.drop_session_until_sender_is_built(self._reason_without_sender())
         else:
-            self._server.set_session_or_none_showing_fault()
+            self._server.begin_session_or_show_fault_once()
 
     def _reason_without_sender(self) -> str:
         """Why no sender answers."""
@@ -124,27 +128,29 @@ class EventLoop:
     def _rerun_publish_and_answer_due(self) -> None:
         """Does what is due: runs, answers and pages."""
         server = self._server
-        self._look_for_changed_sender_if_due()
+        self._look_at_sender_and_switch_session_if_due()
         now = time.monotonic()
         server.rerun_and_publish(
             [] if self._watcher is None else self._watcher.read_events(), now, now >= self._next_folder_look_moment()
         )
         server.open_drawn_pages()
-        while not (server.transport.has_messages or server.is_behind) and server.answer_next_request():
+        while not (server.transport.has_messages or server.are_results_behind_texts) and server.answer_next_request():
             pass
 
     def _wait_for_work_tidying_at_rest(self, transport: Transport) -> None:
         """Waits until there is something to do; at rest, does what can wait."""
         session = self._server.session
         if (
-            self._poll_until(transport, min(self._next_folder_look_moment(), time.monotonic() + _QUIET))
+            self._poll_until_moment_and_has_work(
+                transport, min(self._next_folder_look_moment(), time.monotonic() + _QUIET)
+            )
             or session is None
         ):
             return
         session.workspace.restart_runs_with_long_histories()
         if gc.get_count()[0] > _MANY:
             gc.collect()
-        self._poll_until(transport, session.workspace.next_look_moment())
+        self._poll_until_moment_and_has_work(transport, session.workspace.next_look_moment())
 
     def _next_folder_look_moment(self) -> float:
         """When folders are looked at, or programs: a look takes longer than an answer may, so it waits for a pause."""
@@ -154,7 +160,7 @@ class EventLoop:
         due = session.workspace.next_look_moment()
         return max(due, min(self._server.transport.received_at + _QUIET, due + _PATIENCE))
 
-    def _poll_until(self, transport: Transport, until: float) -> bool:
+    def _poll_until_moment_and_has_work(self, transport: Transport, until: float) -> bool:
         poll = select.poll()
         watcher = None if self._watcher is None else self._watcher.fileno()
         program_files = (
@@ -165,23 +171,25 @@ class EventLoop:
         for file in (transport.fileno(), watcher, *ours, *program_files, *drawn):
             if file is not None:
                 poll.register(file, select.POLLIN)
-        if transport.has_messages or self._server.is_behind:
+        if transport.has_messages or self._server.are_results_behind_texts:
             return True
         return bool(poll.poll(max(0.0, until - time.monotonic()) * 1_000))
 
-    def _start_session(self, server: Server) -> SenderSession:
+    def _start_session_in_place_of_former(self, server: Server) -> SenderSession:
         """Starts what serves by the sender in place of what did; a fault where none is there."""
         self._held.close()
-        self._follower.update_sender_returning_whether_changed(time.monotonic())
+        self._follower.update_returning_if_sender_or_reason_changed(time.monotonic())
         if (sender := self._follower.sender) is None:
             raise Fault(self._reason_without_sender())
         queries = ProgramQueries(sender, self._stop, server.log_line)
         option = layer_of_option(self._settings)
-        if lines := queries.query_refusal_lines(list(every_claim_of_layers([option]))):
+        if lines := queries.refusal_lines_of_settings_claims(list(every_claim_of_layers([option]))):
             raise Fault("; ".join(lines))
         self._watcher = self._held.enter_context(_Unwatched() if server.client.watches else Watcher())
-        settings = OpenSettings(option, lambda claims: queries.query_refusal_lines(list(claims)))
-        pool = self._held.enter_context(LivePool(queries.start_live_run, server.log_line, lambda doing: None))
+        settings = OpenSettings(option, lambda claims: queries.refusal_lines_of_settings_claims(list(claims)))
+        pool = self._held.enter_context(
+            LivePool(queries.start_explaining_run_that_stays_up, server.log_line, lambda doing: None)
+        )
         folders = Folders(WatchChoice(server.client.roots, ()), settings, self._watcher, self._stop, server.log_line)
         home = first_root_or_working_folder(server.client)
         return SenderSession(

@@ -1,4 +1,4 @@
-"""The files pdsuite.toml of a workspace: a text that is open counts in place of its file, and faults are kept."""
+"""The files pdsuite.toml of a workspace: an open text counts in place of its file, and faults are kept, not printed."""
 
 import re
 from collections.abc import Callable, Iterable, Mapping, Set
@@ -35,10 +35,10 @@ class OpenSettings(SettingsFiles):
             known.setdefault(path, []).extend(lines)
         return {path: lines for path, lines in known.items() if lines}
 
-    def unused_table_lines_to_print(self, held: Set[tuple[str, str]]) -> list[str]:
+    def unused_table_lines_to_print_unless_held(self, held: Set[tuple[str, str]]) -> list[str]:
         """No line: tables whose scripts aren't there are among the faults."""
         self._unused = {}
-        for line in super().unused_table_lines_to_print(held | self.scripts):
+        for line in super().unused_table_lines_to_print_unless_held(held | self.scripts):
             for path in self._good:
                 if found := _file_prefix_pattern(path).match(line):
                     self._unused.setdefault(path, []).append(line[found.end() :])

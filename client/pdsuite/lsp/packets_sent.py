@@ -61,7 +61,7 @@ def event_text_replaced_by_sent_packet(text: str, event: Event, sent: SentPacket
     put = [
         it
         for name in ("flags", "seq", *_LEFT_OUT)
-        for it in _field_replacements(text, event, name, sent.field_text(name))
+        for it in _replacement_of_field_if_needed(text, event, name, sent.field_text(name))
     ]
     if with_time:
         place = event.field_extents["time"]
@@ -73,7 +73,7 @@ def event_text_replaced_by_sent_packet(text: str, event: Event, sent: SentPacket
     return words
 
 
-def _field_replacements(text: str, event: Event, name: str, value: str) -> list[tuple[int, int, str]]:
+def _replacement_of_field_if_needed(text: str, event: Event, name: str, value: str) -> list[tuple[int, int, str]]:
     """The replacement for a field, if it needs one: where it begins and ends, and the text that is put there."""
     place = event.field_extents.get(name)
     if place is None:

@@ -40,12 +40,12 @@ class SenderStatus:
         self._was_first_shown = False
 
     @property
-    def result_mark(self) -> str:
+    def unproved_or_stale_sender_mark(self) -> str:
         """The mark beside every result, where its sender isn't proved, or doesn't stand any more."""
         return self._mark
 
     @property
-    def is_of_sender_before(self) -> bool:
+    def are_all_results_of_former_sender(self) -> bool:
         """Whether all results are of a sender that doesn't stand any more."""
         return self._mark == BEFORE
 
@@ -67,7 +67,7 @@ class SenderStatus:
             self._was_first_shown = True
             self._show_message(_INFO, _FIRST)
         self._show_build_progress(follower.build_phase)
-        self._show_refusals((follower.failure, tuple(proof)))
+        self._show_build_and_proof_refusals((follower.failure, tuple(proof)))
 
     def show_turned_scripts(self, scripts: Sequence[ComparedScript]) -> None:
         """Shows which scripts another sender turned: their names at once, and in the log all of it."""
@@ -99,7 +99,7 @@ class SenderStatus:
             value |= {"message": phase}
         self._notify(_PROGRESS, {"token": _TOKEN, "value": value})
 
-    def _show_refusals(self, refusals: tuple[tuple[str, ...], ...]) -> None:
+    def _show_build_and_proof_refusals(self, refusals: tuple[tuple[str, ...], ...]) -> None:
         """Shows why the sender isn't built or proved, as messages and at the places named; or takes that back."""
         if refusals == self._refusals:
             return

@@ -1,4 +1,4 @@
-"""The server: it takes what a client sends, and sends it what came of its scripts."""
+"""The server: it takes what a client sends, and sends it what came of its scripts; without a session, syntax faults."""
 
 import os
 from collections.abc import Callable, Mapping, Sequence
@@ -123,7 +123,7 @@ class Server:
             "workspace/didChangeWorkspaceFolders": self._change_root_folders_and_restart,
         }
 
-    def set_session_or_none_showing_fault(self) -> None:
+    def begin_session_or_show_fault_once(self) -> None:
         """Looks for the programs, and begins with what is open; where they aren't there, says so once."""
         before, self.session = self.session, None
         self._is_awaiting = False
@@ -147,7 +147,7 @@ class Server:
             self.publish_syntax_faults_without_sender()
 
     @property
-    def is_behind(self) -> bool:
+    def are_results_behind_texts(self) -> bool:
         """Whether a text has changed since its results were worked out."""
         return self.session is not None and self.session.workspace.are_results_outdated
 
@@ -161,7 +161,9 @@ class Server:
             self.transport.dispatch_messages_noting_end()
         if self.sender_status.take_resend_flag():
             changed = list(dict.fromkeys([*changed, *self.session.workspace.results]))
-        self._publisher.publish_results(self.session, changed, BEFORE if self.sender_status.is_of_sender_before else "")
+        self._publisher.publish_results(
+            self.session, changed, BEFORE if self.sender_status.are_all_results_of_former_sender else ""
+        )
         if self._turned is not None:
             turned, self._turned = self._turned, None
             self.sender_status.show_turned_scripts(turned())
@@ -246,7 +248,7 @@ class Server:
 
     def _begin_missing_session_at_save(self, params: object) -> None:
         if self.session is None and self._is_initialized and not self._is_awaiting:
-            self.set_session_or_none_showing_fault()
+            self.begin_session_or_show_fault_once()
 
     def _close_document(self, params: object) -> None:
         uri = require_text_member(require_member(params, "textDocument"), "uri")
@@ -287,7 +289,7 @@ class Server:
         roots = dict.fromkeys([*(it for it in self.client.roots if it not in gone), *new])
         self.client = replace(self.client, roots=tuple(roots))
         if self.session is not None:
-            self.set_session_or_none_showing_fault()
+            self.begin_session_or_show_fault_once()
 
     # ---- requests
 
@@ -335,11 +337,11 @@ class Server:
         found = self.session.features.hover(document, result, parse_position(require_member(params, "position")))
         if found is None:
             return None
-        words, extent = found
-        words += f"\n\n{self.sender_status.result_mark.strip(' ()')}" if self.sender_status.result_mark else ""
+        mark = self.sender_status.unproved_or_stale_sender_mark.strip(" ()")
+        words = "\n\n".join(it for it in (found.words, mark, found.rules) if it)
         kind = "markdown" if self.client.takes_markdown else "plaintext"
         shown = words if self.client.takes_markdown else strip_markdown(words)
-        return {"contents": {"kind": kind, "value": shown}, "range": document.lines.range_json(extent)}
+        return {"contents": {"kind": kind, "value": shown}, "range": document.lines.range_json(found.extent)}
 
     def _answer_code_actions(self, document: Document, params: object) -> list[Json]:
         span = require_member(params, "range")
@@ -351,7 +353,7 @@ class Server:
         found = nested_member_or_none(params, "context", "diagnostics")
         return [
             {
-                "title": f"{it.action.title}{BEFORE if self.sender_status.is_of_sender_before else ''}",
+                "title": f"{it.action.title}{BEFORE if self.sender_status.are_all_results_of_former_sender else ''}",
                 "kind": it.action.kind,
                 "diagnostics": found if isinstance(found, list) else [],
                 "isPreferred": number == 0,
@@ -373,7 +375,9 @@ class Server:
         if self.session.workspace.find_results_key_of_open_uri(document.uri) is None:
             return []
         return code_lenses(
-            document.uri, self.session.workspace.find_result_if_up_to_date(document.uri), self.sender_status.result_mark
+            document.uri,
+            self.session.workspace.find_result_if_up_to_date(document.uri),
+            self.sender_status.unproved_or_stale_sender_mark,
         )
 
     def _answer_symbols(self, document: Document, params: object) -> list[Json]:
@@ -399,7 +403,7 @@ class Server:
         result = None if self.session is None else self.session.workspace.find_result_if_up_to_date(document.uri)
         if self.session is None or result is None or result.text is None:
             raise Fault("nothing was run that could be drawn")
-        if self.sender_status.is_of_sender_before:
+        if self.sender_status.are_all_results_of_former_sender:
             raise Fault("the sender has changed: what would be drawn is of the one before")
         if document.uri in self.pages:
             self.pages.pop(document.uri).close()

@@ -207,7 +207,11 @@ class Workspace:
         unfit: Mapping[str, str],
         versions: Mapping[str, int],
     ) -> list[str]:
-        rows, causes, steps = dict(self._pool.rows()), self._pool.causes_by_path(), self._pool.step_counts_by_path()
+        rows, causes, steps = (
+            dict(self._pool.rows()),
+            self._pool.causes_by_path(),
+            self._pool.step_counts_at_last_change_of_each_run(),
+        )
         before, results, changed = self.results, {}, []
         for path, file in files.items():
             row = rows.get(path) if path in wanted else Row(Verdict.ERROR, word=unfit.get(path, ""))

@@ -15,7 +15,7 @@ same transfers on both sides of a comparison, and `statistics` says what the dif
 - Time is virtual: whole microseconds, and nanoseconds within the queue. Chance is drawn by seeds of case and run, equal
   for both sides, so pairs compare.
 - Inputs go to the program only once nothing can arrive before them: what left is known first
-  (`Transfer.earliest_arrival_at_peer`).
+  (`Transfer.earliest_peer_arrival_if_sent_at_or_after`).
 - Many transfers share a program, as scripts that grow at their ends; each is independent of those beside it.
 - A transfer that comes to no end counts on neither side, and is reported.
 - A verdict of a figure holds together with all others of the table (Holm), so more figures don't make more findings.

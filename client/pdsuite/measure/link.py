@@ -89,7 +89,7 @@ class Link:
         arrival = -(-self._free // _MICROSECOND) + self._path.delay_us + more
         return CarriedPacket(PacketFate.LATE if is_late else PacketFate.ARRIVES, arrival, begin - now)
 
-    def earliest_arrival(self, at: int) -> int:
+    def earliest_arrival_if_leaving_at_or_after(self, at: int) -> int:
         """A moment before which nothing that leaves from this one on reaches the peer, in microseconds."""
         begin = max(at * _MICROSECOND, self._free)
         return (begin + self._nanoseconds_to_send(HEADER + 1)) // _MICROSECOND + self._path.delay_us

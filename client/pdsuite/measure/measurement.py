@@ -85,7 +85,7 @@ def cases_of_paths(paths: Sequence[NetworkPath], runs: int) -> list[TransferCase
 def side_settings_with_path_mss(side: Side, common: Settings, path: NetworkPath) -> Settings:
     """The settings of a side over a path: the sender's segments are as large as the path's, unless it is set."""
     own = {_MSS: path.mss} if path.mss != DEFAULTS[_MSS] else {}
-    return side.effective_settings(sorted_settings({**own, **dict(common)}))
+    return side.adapted_given_and_own_settings(sorted_settings({**own, **dict(common)}))
 
 
 @dataclass(frozen=True)

@@ -70,11 +70,12 @@ class MeasurePage:
             yield MeasurePicture("pictures", "", f"Nothing is drawn: {reason}")
             return
         # Only who draws pays for what draws.
-        from pdsuite.diagram.distributions import joined_distribution_svg_text
+        from pdsuite.diagram.distributions import wide_and_narrow_distribution_svg_text
 
         times = [[it.sides[side].time / 1_000 for it in pairs] for side in (0, 1)]
         yield MeasurePicture(
-            "time to deliver", joined_distribution_svg_text(times, _SIDES, "milliseconds until all is delivered")
+            "time to deliver",
+            wide_and_narrow_distribution_svg_text(times, _SIDES, "milliseconds until all is delivered"),
         )
         worst = max(pairs, key=lambda it: (it.after.time, it.after.time - it.before.time))
         for side, delivery in enumerate(worst.sides):

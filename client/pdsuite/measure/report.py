@@ -9,7 +9,7 @@ from pdsuite.measure.measurement import TransferCase
 from pdsuite.measure.statistics import ChangeVerdict, FigureRow, FigureTable, Unit
 from pdsuite.output.fitting import wrap_with_hanging_indent
 from pdsuite.output.octets import printable_text
-from pdsuite.output.styled_text import StyledText, unstyled_text
+from pdsuite.output.styled_text import StyledText, styled_text_of_one_plain_piece
 from pdsuite.run.outcomes import UNPROVED
 
 # Of the JSON, as docs/measure.schema.json has it.
@@ -149,7 +149,7 @@ def as_json(report: MeasureReport) -> StyledText:
         whole["cut"] = True
     if report.is_unproved:
         whole[UNPROVED] = True
-    return unstyled_text(json.dumps(whole, ensure_ascii=False, indent=1) + "\n")
+    return styled_text_of_one_plain_piece(json.dumps(whole, ensure_ascii=False, indent=1) + "\n")
 
 
 def _case_object(table: FigureTable) -> dict[str, object]:

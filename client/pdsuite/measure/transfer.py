@@ -130,7 +130,7 @@ class Transfer:
         window = min(path.window, 65_535)
         self._lines += _HEADER_LINES
         self._append_line_and_advance_time(SYN_AT, f"< S 0:0(0) win {window} <mss {path.mss}{sack}{scale}>")
-        at = self._link.earliest_arrival(SYN_AT) + path.delay_us
+        at = self._link.earliest_arrival_if_leaving_at_or_after(SYN_AT) + path.delay_us
         self._append_line_and_advance_time(at, f"< . 1:1(0) ack 1 win {path.window_field}")
         self._append_line_and_advance_time(at, "accept(3, ..., ...) = 4")
         self._put_due_writes_and_schedule_next(at)
@@ -145,7 +145,7 @@ class Transfer:
                 raise StalledTransferError(
                     f"nothing is due, and {self._receiver.taken:,} of {self._writer.total:,} octets arrived"
                 )
-            horizon = self.earliest_arrival_at_peer(first)
+            horizon = self.earliest_peer_arrival_if_sent_at_or_after(first)
             is_delivered = self._deliver_to_peer_before_and_check_any(horizon)
             while self._at_sender and self._at_sender[0][0] < horizon + self._path.delay_us:
                 at, _, ack = heapq.heappop(self._at_sender)
@@ -156,9 +156,9 @@ class Transfer:
                 self._append_line_and_advance_time(first, _TICK)
         return self._lines[begin:]
 
-    def earliest_arrival_at_peer(self, first: int) -> int:
+    def earliest_peer_arrival_if_sent_at_or_after(self, first: int) -> int:
         """A moment before which nothing reaches the peer that leaves from the first one on."""
-        return self._link.earliest_arrival(first)
+        return self._link.earliest_arrival_if_leaving_at_or_after(first)
 
     def _first_due_moment_at_sender(self, expiry: int | None) -> int | None:
         """The first moment at which the sender may do something."""

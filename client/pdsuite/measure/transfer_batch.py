@@ -50,7 +50,7 @@ class _GrowingScript:
     taking: list[str] = field(default_factory=list)
     departures: list[SegmentDeparture] = field(default_factory=list)
 
-    def command_adding_inputs(self, inputs: Sequence[str]) -> bytes:
+    def command_appending_expectations_and_inputs(self, inputs: Sequence[str]) -> bytes:
         """The command that puts inputs at the end, below the lines that take the packets before them."""
         put = [*self.taking, *inputs]
         self.taking = []
@@ -87,7 +87,7 @@ class _GrowingScript:
             is_by_timer = isinstance(by, Mapping) and "line" not in by
             self.departures.append(SegmentDeparture(int(found[5]) * SECOND + int(found[6]), start, end, is_by_timer))
 
-    def make_sender_reply_and_clear_departures(self, cause: Cause) -> SenderReply:
+    def take_departures_and_expiry_as_reply(self, cause: Cause) -> SenderReply:
         """The sender's reply to all inputs since the last reply."""
         state = cause.get("state")
         expiry = state.get("expiry_us") if isinstance(state, Mapping) else None
@@ -141,10 +141,12 @@ class _TransferBatch:
         """The next command about a script: nothing where the transfer is over."""
         try:
             if cause is None:
-                return script.command_adding_inputs(next(script.game))
+                return script.command_appending_expectations_and_inputs(next(script.game))
             if not script.take_reported_packets_and_check_complete(cause):
-                return script.command_adding_inputs(())
-            return script.command_adding_inputs(script.game.send(script.make_sender_reply_and_clear_departures(cause)))
+                return script.command_appending_expectations_and_inputs(())
+            return script.command_appending_expectations_and_inputs(
+                script.game.send(script.take_departures_and_expiry_as_reply(cause))
+            )
         except StopIteration as end:
             self.outcomes[script.name] = end.value
         except (StalledTransferError, UnfinishedTransferError) as why:

@@ -5,7 +5,7 @@ from pathlib import Path
 
 from pdsuite.compare.sides import Side
 from pdsuite.faults import Fault
-from pdsuite.files import require_new_or_empty_folder, write_folder_atomically
+from pdsuite.files import real_path_requiring_new_or_empty_folder, write_folder_atomically
 from pdsuite.measure.measurement import MeasuredCase, TransferCase, program_path_of_side, side_settings_with_path_mss
 from pdsuite.measure.transfer import TransferResult, SegmentDeparture
 from pdsuite.output.octets import printable_path
@@ -29,7 +29,7 @@ class TransferFolder:
             if not side.sender.has_recorder_or_is_unbuilt:
                 raise Fault(f"--save: {side.sender} has no pdrecord")
         self._sides = sides
-        self._target = require_new_or_empty_folder(folder)
+        self._target = real_path_requiring_new_or_empty_folder(folder)
 
     def write_all_transfers(self, cases: Sequence[MeasuredCase], common: Settings, stop: Stop) -> None:
         """Writes all transfers."""

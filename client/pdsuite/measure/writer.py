@@ -35,7 +35,7 @@ class TransferWriter:
 
     def take_due_write_sizes(self, at: int) -> Iterator[int]:
         """The octets that it writes at a moment, write by write."""
-        while self._due is not None and self._due <= at and (octets := self._next_write_octets()):
+        while self._due is not None and self._due <= at and (octets := self._write_size_or_zero_if_buffer_lacks_room()):
             if self._written == self._current_part_first_octet:
                 self._begins.append(at)
             self._written += octets
@@ -70,7 +70,7 @@ class TransferWriter:
         """Where the present part begins."""
         return self._ends[self._part - 1] if self._part else 1
 
-    def _next_write_octets(self) -> int:
+    def _write_size_or_zero_if_buffer_lacks_room(self) -> int:
         """How much the next write has: nothing where too little of the buffer is free."""
         left = self._ends[self._part] - self._written
         if self._path.write:

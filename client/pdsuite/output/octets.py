@@ -21,7 +21,7 @@ def printable_octets(octets: bytes, most: int | None = None, also: str = "") -> 
         signs = list(octets.decode("ascii")) if most is not None else None
         text = octets.decode("ascii")
     else:
-        signs = [_hex_escape_if_unprintable(it, also) for it in octets.decode("utf-8", "surrogateescape")]
+        signs = [_hex_or_backslash_escape_if_needed(it, also) for it in octets.decode("utf-8", "surrogateescape")]
         text = "".join(signs)
     if signs is None or most is None or len(text.encode()) <= most:
         return text
@@ -52,7 +52,7 @@ def make_absolute_printable_path_function() -> Callable[[str], str]:
     return absolute_printable_path
 
 
-def _hex_escape_if_unprintable(character: str, also: str) -> str:
+def _hex_or_backslash_escape_if_needed(character: str, also: str) -> str:
     if character == "\\" and character not in also:
         return "\\\\"
     if character.isprintable() and character not in also:

@@ -40,7 +40,7 @@ class Screen:
 
     def show(self, text: StyledText) -> None:
         """Writes a part of a report."""
-        plain = text.plain
+        plain = text.text_without_styles
         if not plain:
             return
         try:

@@ -10,7 +10,7 @@ class StyledText:
     pieces: list[tuple[str, str]] = field(default_factory=list)
 
     @property
-    def plain(self) -> str:
+    def text_without_styles(self) -> str:
         """The text without its styles."""
         return "".join(text for text, _ in self.pieces)
 
@@ -25,6 +25,6 @@ class StyledText:
         return self
 
 
-def unstyled_text(text: str) -> StyledText:
+def styled_text_of_one_plain_piece(text: str) -> StyledText:
     """A text without a style."""
     return StyledText([(text, "")])

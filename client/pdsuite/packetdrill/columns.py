@@ -57,7 +57,7 @@ def marked_field_columns_of_both_packets(script: str, actual: str, kind: str) ->
         if left or right
     ]
     widths = [max(len(left.text), len(right.text)) for left, right in pairs]
-    return _packet_fields_with_padding([it for it, _ in pairs], widths), _packet_fields_with_padding(
+    return _pad_fields_to_column_widths([it for it, _ in pairs], widths), _pad_fields_to_column_widths(
         [it for _, it in pairs], widths
     )
 
@@ -81,7 +81,7 @@ def _make_marked_packet_field(name: str, value: str | None, mark: Mark) -> Packe
     return PacketField("", Mark.NONE) if value is None else PacketField(_FORMS[name].format(value), mark)
 
 
-def _packet_fields_with_padding(parts: list[PacketField], widths: list[int]) -> PacketColumns:
+def _pad_fields_to_column_widths(parts: list[PacketField], widths: list[int]) -> PacketColumns:
     """The parts, each with the blanks up to the next column; the last one with none."""
     last = max(number for number, it in enumerate(parts) if it.text)
     padded = [

@@ -94,11 +94,11 @@ def _make_event_before_trace_line(recording: str, begin: int, trace: "re.Match[s
         moment=int(trace["whole"]) * SECOND + int(trace["part"]),
         state=SenderState(trace["name"], facts),
         sent_by=sent_by,
-        fields=None if packet is None else _fields_of_match(packet),
+        fields=None if packet is None else _packet_fields_from_regex_match(packet),
     )
 
 
-def _fields_of_match(packet: "re.Match[str]") -> Fields:
+def _packet_fields_from_regex_match(packet: "re.Match[str]") -> Fields:
     ack, win = (None if packet[it] is None else int(packet[it]) for it in ("ack", "win"))
     octets = int(packet["start"]), int(packet["end"])
     return Fields(frozenset(packet["flags"]) - {"-"}, octets, ack, win, "".join((packet["options"] or "").split()))
@@ -120,7 +120,7 @@ def match_events(
     before the last moments of the events, give or take the tolerance.
     """
     inputs = [place for place, it in enumerate(recorded) if it.is_input]
-    pairs = _pair_outputs(events, recorded, passed)
+    pairs = _pair_outputs_in_order_then_by_likeness(events, recorded, passed)
     base = clock = begin
     after: RecordedEvent | None = None
     for number, event in enumerate(events):
@@ -132,7 +132,11 @@ def match_events(
             until = inputs[0] if inputs else len(recorded)
             last = inf if number < passed else max(clock, end + tolerance)
             place = pairs.get(number)
-            found = place if place is not None and _is_sent_in_time(recorded, place, until, last) else None
+            found = (
+                place
+                if place is not None and _is_before_next_input_and_by_last_moment(recorded, place, until, last)
+                else None
+            )
             base = _time_base_after_event(event.item.time, base, None if found is None else recorded[found].moment)
         if found is not None:
             after = recorded[found]
@@ -140,14 +144,16 @@ def match_events(
         yield MatchedEvent(event, None if found is None else recorded[found], after, first, end)
 
 
-def _pair_outputs(events: Sequence[Event], recorded: Sequence[RecordedEvent], passed: int) -> dict[int, int]:
+def _pair_outputs_in_order_then_by_likeness(
+    events: Sequence[Event], recorded: Sequence[RecordedEvent], passed: int
+) -> dict[int, int]:
     """The place of the packet beside each event that awaits one: those that passed met theirs in order."""
     awaited = [number for number, it in enumerate(events) if not it.is_input]
     outputs = [place for place, it in enumerate(recorded) if not it.is_input]
     taken = min(sum(number < passed for number in awaited), len(outputs))
     pairs = dict(zip(awaited[:taken], outputs[:taken]))
     left, sent = awaited[taken:], outputs[taken:]
-    until = _next_recorded_input_by_event(events, recorded)
+    until = _next_input_place_after_each_event(events, recorded)
     wanted = [
         comparable_fields_of_packet(it.item.what) if isinstance(it.item.what, Packet) else None
         for it in (events[n] for n in left)
@@ -161,7 +167,7 @@ def _pair_outputs(events: Sequence[Event], recorded: Sequence[RecordedEvent], pa
     return pairs | {left[one]: sent[other] for one, other in found.items()}
 
 
-def _next_recorded_input_by_event(events: Sequence[Event], recorded: Sequence[RecordedEvent]) -> list[int]:
+def _next_input_place_after_each_event(events: Sequence[Event], recorded: Sequence[RecordedEvent]) -> list[int]:
     """For each event the place of the next input after it in the recording, or its end."""
     inputs = [place for place, it in enumerate(recorded) if it.is_input]
     untils, count = [], 0
@@ -171,7 +177,9 @@ def _next_recorded_input_by_event(events: Sequence[Event], recorded: Sequence[Re
     return untils
 
 
-def _is_sent_in_time(recorded: Sequence[RecordedEvent], place: int, until: int, last: float) -> bool:
+def _is_before_next_input_and_by_last_moment(
+    recorded: Sequence[RecordedEvent], place: int, until: int, last: float
+) -> bool:
     return place < until and recorded[place].moment <= last
 
 
@@ -198,7 +206,7 @@ def _time_base_after_event(time: Time | None, base: int, moment: int | None) -> 
     return base if moment is None else max(base, moment)
 
 
-def last_input_before_moment(events: Sequence[Event], moment: int) -> Event | None:
+def last_script_input_due_before_moment(events: Sequence[Event], moment: int) -> Event | None:
     """The last call or packet that arrives before a moment in microseconds, where times that aren't fixed take none."""
     base, found = 0, None
     for it in events:

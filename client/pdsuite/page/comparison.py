@@ -12,6 +12,7 @@ from pdsuite.compare.comparison import (
     counts_by_folder_and_total,
 )
 from pdsuite.compare.groups import group_by_first_difference
+from pdsuite.compare.rule_changes import RuleChanges
 from pdsuite.diagram.failing_line import failing_line_of
 from pdsuite.diagram.timeline import timeline_if_any_packet
 from pdsuite.files import write_file_atomically
@@ -23,6 +24,13 @@ from pdsuite.page.render import render_comparison_page
 from pdsuite.programs.trace import traced_events_in
 from pdsuite.programs.verdict import Verdict
 from pdsuite.reports.comparison import compared_script_lines
+from pdsuite.reports.rule_changes import (
+    UNREACHED,
+    line_if_unknown_or_unchanged,
+    script_counts_in_words,
+    scripts_with_their_lines,
+    way_to_first_script,
+)
 
 # So many scripts are drawn.
 _MOST = 50
@@ -49,6 +57,25 @@ class ComparisonSection:
     group: str = ""  # what a group of several begins with
 
 
+@dataclass(frozen=True, slots=True)
+class ChangedRuleSection:
+    """A rule that other scripts come to: its counts, a warning if no script does any more, and scripts with lines."""
+
+    name: str
+    words: str
+    counts: str
+    warning: str
+    scripts: tuple[tuple[str, str], ...]
+
+
+@dataclass(frozen=True, slots=True)
+class ComparedRules:
+    """The rules of a page, or the line that stands in their place."""
+
+    line: str
+    sections: tuple[ChangedRuleSection, ...]
+
+
 class ComparisonPage:
     """The page in a folder."""
 
@@ -62,12 +89,28 @@ class ComparisonPage:
         results: tuple[SenderResults, SenderResults],
         names: tuple[str, str],
         is_unproved: bool,
+        rules: RuleChanges | None = None,
     ) -> None:
         """Writes the page."""
         sections = tuple(_yield_sections_turned_first(compared, results))
         counts: tuple[KindCounts, ...] = tuple(counts_by_folder_and_total(compared))
-        write_file_atomically(self._folder / TABLE, render_comparison_page(sections, counts, names, is_unproved))
+        shown = None if rules is None else _compared_rules(rules)
+        write_file_atomically(self._folder / TABLE, render_comparison_page(sections, counts, shown, names, is_unproved))
         remove_stale_pages(self._folder, (), ())
+
+
+def _compared_rules(found: RuleChanges) -> ComparedRules:
+    sections = (
+        ChangedRuleSection(
+            it.name,
+            it.words,
+            script_counts_in_words(it),
+            "" if it.after else f"{UNREACHED}: {way_to_first_script(it)}",
+            tuple(scripts_with_their_lines(it, is_every=True)),
+        )
+        for it in found.changes
+    )
+    return ComparedRules(line_if_unknown_or_unchanged(found), tuple(sections))
 
 
 def _yield_sections_turned_first(

@@ -58,7 +58,7 @@ def make_script_diagram_and_files(
         return undrawn_diagram_with_reason(row)
     if reason := message_if_module_missing("matplotlib"):
         return Diagram("", (f"It isn't drawn: {reason}",))
-    recording = recorder.record_script_or_note_reason(outcome.path, text.octets, outcome.settings)
+    recording = recorder.record_script_or_return_and_note_reason(outcome.path, text.octets, outcome.settings)
     if not recording.text:
         return Diagram("", (f"There is no recording: {recording.fault or 'pdrecord writes nothing'}",))
     timeline = timeline_if_any_packet(traced_events_in(recording.text), _failing_line_if_failed(text, row, cause))

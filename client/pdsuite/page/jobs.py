@@ -14,7 +14,7 @@ from pdsuite.page.view_model import PageEntry, TableRow, script_view_of
 from pdsuite.programs.locate import is_programs_folder_set
 from pdsuite.programs.recorder import Recorder
 from pdsuite.programs.verdict import Verdict
-from pdsuite.run.line_diff import LineDiff, line_diff_or_recording_fault
+from pdsuite.run.line_diff import LineDiff, line_diff_from_recording_or_its_fault
 from pdsuite.signals import Stop
 
 
@@ -48,7 +48,7 @@ def write_table_and_script_pages_of_job(job: PageJob, stop: Stop, done: Callable
         done(place)
 
 
-def _has_programs(job: PageJob) -> bool:
+def _has_proved_or_given_programs(job: PageJob) -> bool:
     """Whether there are programs to start: proved ones, or a build that is kept."""
     return not job.is_unproved or job.regress is not None or is_programs_folder_set()
 
@@ -56,7 +56,10 @@ def _has_programs(job: PageJob) -> bool:
 def _write_script_page(job: PageJob, entry: PageEntry, recorder: Recorder) -> None:
     diagram = make_script_diagram_and_files(entry.outcome, entry.text, entry.plot, entry.cause, recorder, job.folder)
     sheet = script_view_of(
-        entry, entry.cause, diagram, _known_or_recorded_line_diff(entry, recorder if _has_programs(job) else None)
+        entry,
+        entry.cause,
+        diagram,
+        _known_or_recorded_line_diff(entry, recorder if _has_proved_or_given_programs(job) else None),
     )
     write_file_atomically(job.folder / FOLDER / sheet.row.file, render_script_page(sheet, job.is_unproved))
 
@@ -67,5 +70,5 @@ def _known_or_recorded_line_diff(entry: PageEntry, recorder: Recorder | None) ->
     if recorder is None or text is None or outcome.row.verdict is not Verdict.FAIL or outcome.line_diff is not None:
         return outcome.line_diff
     written = text.octets.decode("utf-8", "surrogateescape")
-    recording = recorder.record_script_or_note_reason(outcome.path, text.octets, outcome.settings)
-    return line_diff_or_recording_fault(outcome.row, outcome.block_lines, written, recording, outcome.settings)
+    recording = recorder.record_script_or_return_and_note_reason(outcome.path, text.octets, outcome.settings)
+    return line_diff_from_recording_or_its_fault(outcome.row, outcome.block_lines, written, recording, outcome.settings)

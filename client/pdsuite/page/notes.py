@@ -29,7 +29,7 @@ class SenderNotes:
     turned: tuple[TurnedScript, ...] = ()
 
 
-def turned_scripts_for_table(scripts: Sequence[ComparedScript]) -> tuple[TurnedScript, ...]:
+def turned_scripts_with_lines_of_first_ones(scripts: Sequence[ComparedScript]) -> tuple[TurnedScript, ...]:
     """The scripts that turned, as the table has them."""
     line_lists = [tuple(compared_script_lines(it)) for it in scripts[:_MOST]]
     line_lists += [()] * (len(scripts) - len(line_lists))

@@ -14,7 +14,7 @@ from pdsuite.page.draw_process import FAILED, FAULT
 from pdsuite.page.folder import prepare_page_folder_or_refuse_foreign_files
 from pdsuite.page.jobs import PageJob
 from pdsuite.page.links import plot_file_names
-from pdsuite.page.notes import SenderNotes, turned_scripts_for_table
+from pdsuite.page.notes import SenderNotes, turned_scripts_with_lines_of_first_ones
 from pdsuite.page.render import SENDER, css_marking_pages_of_sender_before
 from pdsuite.page.view_model import PageEntry, table_row_of
 from pdsuite.programs.child_process import ChildProcess
@@ -71,7 +71,7 @@ class PageUpdates:
         self._drawn = {}
         self.terminate_drawing_workers()
 
-    def mark_as_of_sender_before(self, words: str) -> None:
+    def mark_or_unmark_pages_of_sender_before(self, words: str) -> None:
         """Has all pages say that they are of the sender before, and why, until they are drawn of one that stands."""
         self._words = words
         shown_words = words or (_DRAWING if self._is_turning else "")
@@ -103,7 +103,9 @@ class PageUpdates:
         plots = choose_plot_of_each_script((it.outcome for it in entries), self._plots)
         self._waiting = self._entries = [replace(it, plot=plot) for it, plot in zip(entries, plots)]
         if turned is not self._turned:
-            self._turned, self._notes = turned, replace(self._notes, turned=turned_scripts_for_table(turned))
+            self._turned, self._notes = turned, replace(
+                self._notes, turned=turned_scripts_with_lines_of_first_ones(turned)
+            )
         self.read_drawn_and_start_waiting()
 
     def read_drawn_and_start_waiting(self) -> None:
@@ -116,7 +118,7 @@ class PageUpdates:
             self._waiting = None
         if self._is_turning and self._follows and not self._workers and not self._words:
             self._is_turning = False
-            self.mark_as_of_sender_before("")
+            self.mark_or_unmark_pages_of_sender_before("")
 
     def wait_until_drawn(self, stop: Stop, advance: Callable[[int, int], None]) -> None:
         """Waits until all is drawn; `advance` gets how many pages are, and of how many."""

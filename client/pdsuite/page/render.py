@@ -17,8 +17,10 @@ from pdsuite.programs.verdict import Verdict
 from pdsuite.run.outcomes import CountedAs
 
 if TYPE_CHECKING:
-    from pdsuite.page.comparison import ComparisonSection
+    from pdsuite.page.comparison import ComparedRules, ComparisonSection
     from pdsuite.page.measure_view import MeasureSection
+    from pdsuite.page.rules import RuleGroup
+    from pdsuite.rules.reached_rules import RuleRun
 
 _HERE = Path(__file__).parent
 # Stands in each page, and shows whose it is.
@@ -82,10 +84,15 @@ def render_script_page(sheet: ScriptView, is_unproved: bool = False) -> bytes:
 
 
 def render_comparison_page(
-    sections: "Sequence[ComparisonSection]", counts: Sequence[KindCounts], names: tuple[str, str], is_unproved: bool
+    sections: "Sequence[ComparisonSection]",
+    counts: Sequence[KindCounts],
+    rules: "ComparedRules | None",
+    names: tuple[str, str],
+    is_unproved: bool,
 ) -> bytes:
     """The page of a comparison."""
-    return _fill_template("compare.html", sections=sections, counts=counts, names=names, is_unproved=is_unproved)
+    values = {"sections": sections, "counts": counts, "rules": rules, "names": names}
+    return _fill_template("compare.html", is_unproved=is_unproved, **values)
 
 
 def render_measure_page(
@@ -93,6 +100,13 @@ def render_measure_page(
 ) -> bytes:
     """The page of what was measured."""
     return _fill_template("measure.html", sections=sections, totals=totals, names=names, is_unproved=is_unproved)
+
+
+def render_rules_page(groups: "Sequence[RuleGroup]", run: "RuleRun", is_unproved: bool) -> bytes:
+    """The page of the rules that the scripts of a run come to."""
+    reached = [bool(it.scripts) for group in groups for it in group.rules]
+    counts = {"rule_count": len(reached), "unreached_count": reached.count(False)}
+    return _fill_template("rules.html", groups=groups, run=run, is_unproved=is_unproved, **counts)
 
 
 def _fill_template(name: str, **values: object) -> bytes:

@@ -13,14 +13,18 @@ from pdsuite.programs.cause_text import (
     WORDS,
     dropped_segment_lines_and_rules,
     make_printable,
-    origin_line_or_timer,
+    origin_and_rule_in_words,
+    packet_with_origin_and_rule,
     unmatched_packets_with_origins,
     value_in_words_without_unit,
 )
-from pdsuite.programs.cause_text import packet_with_origin_line_or_timer
 from pdsuite.programs.protocol import Cause
 from pdsuite.programs.verdict import Verdict
-from pdsuite.reports.outcome_text import explanation_or_line_below_row, reason_for_row, warning_texts
+from pdsuite.reports.outcome_text import (
+    explanation_or_line_below_row,
+    explained_reason_or_meaning_of_row,
+    warning_texts,
+)
 from pdsuite.run.line_diff import DiffLine, LineDiff
 from pdsuite.run.outcomes import CountedAs, ScriptOutcome
 from pdsuite.scripts.settings import value_as_toml
@@ -143,8 +147,8 @@ def table_row_of(outcome: ScriptOutcome) -> TableRow:
         "" if row.verdict is Verdict.ERROR else row.word,
         outcome.explained_or_row_line_number,
         _stripped_text_of_row_line(outcome),
-        _warnings_or_reason_for_row(outcome),
-        _expected_row_in_words(outcome),
+        _error_word_or_warnings_or_reason(outcome),
+        _known_failure_row_with_reason(outcome),
     )
 
 
@@ -163,7 +167,7 @@ def script_view_of(entry: PageEntry, cause: Cause | None, diagram: Diagram, met:
         events=outcome.row.number if outcome.row.verdict is Verdict.PASS else None,
         lines=tuple(_numbered_script_lines(entry.text, outcome.explained_or_row_line_number)) if entry.text else (),
         settings=tuple(NamedFact(key, make_printable(value_as_toml(value))) for key, value in outcome.settings),
-        packets=_compared_packets(explanation),
+        packets=_script_packet_and_sent_one_if_any(explanation),
         reason=_printable_text_of_key_or_empty(explanation, "reason_words"),
         refused=_refused_text_split_at_column(explanation),
         facts=tuple(_cause_facts(explanation)),
@@ -177,8 +181,8 @@ def script_view_of(entry: PageEntry, cause: Cause | None, diagram: Diagram, met:
 
 
 def _cause_facts(explanation: Cause) -> Iterator[NamedFact]:
-    if sender := origin_line_or_timer(explanation.get("sent_by")):
-        yield NamedFact("sent by", sender)
+    if sender := origin_and_rule_in_words(explanation.get("sent_by")):
+        yield NamedFact("sent by", make_printable(sender))
     for key, words in WORDS.items():
         if key in explanation and key not in _ELSEWHERE:
             yield NamedFact(words, _value_text_with_unit_of_seconds(key, explanation[key]))
@@ -188,12 +192,12 @@ def _cause_facts(explanation: Cause) -> Iterator[NamedFact]:
 
 def _unmatched_sent_packet_texts(explanation: Cause) -> Iterator[str]:
     return (
-        make_printable(packet_with_origin_line_or_timer(packet, origin))
+        make_printable(packet_with_origin_and_rule(packet, origin))
         for packet, origin in unmatched_packets_with_origins(explanation)
     )
 
 
-def _expected_row_in_words(outcome: ScriptOutcome) -> str:
+def _known_failure_row_with_reason(outcome: ScriptOutcome) -> str:
     """Which row is expected, and why, where one is."""
     expected = outcome.expected
     if expected is None or outcome.row.verdict is Verdict.NOT_RUN:
@@ -201,11 +205,11 @@ def _expected_row_in_words(outcome: ScriptOutcome) -> str:
     return expected.reason if outcome.is_known_failure else f'"{expected.row}" is expected ({expected.reason})'
 
 
-def _warnings_or_reason_for_row(outcome: ScriptOutcome) -> str:
+def _error_word_or_warnings_or_reason(outcome: ScriptOutcome) -> str:
     """Why a row is so, as far as that is explained, or what is warned of."""
     if outcome.row.verdict is Verdict.ERROR:
         return outcome.row.word
-    return "; ".join(warning_texts(outcome)) or reason_for_row(outcome)
+    return "; ".join(warning_texts(outcome)) or explained_reason_or_meaning_of_row(outcome)
 
 
 def _numbered_script_lines(text: ScriptText, named: int | None) -> Iterator[ScriptLine]:
@@ -213,7 +217,7 @@ def _numbered_script_lines(text: ScriptText, named: int | None) -> Iterator[Scri
         yield ScriptLine(number, printable_octets(line.removesuffix(b"\r").expandtabs()), number == named)
 
 
-def _compared_packets(explanation: Cause) -> tuple[tuple[str, PacketColumns], ...]:
+def _script_packet_and_sent_one_if_any(explanation: Cause) -> tuple[tuple[str, PacketColumns], ...]:
     """The packet of the script, and below it the one that was sent, if one was."""
     script, actual = _printable_text_of_key_or_empty(explanation, "script_packet"), _printable_text_of_key_or_empty(
         explanation, "actual_packet"

@@ -51,7 +51,7 @@ class ProgramAnswer:
     raw: ProcessOutput = field(default=ProcessOutput(), compare=False)
 
 
-def split_into_batches(cases: Iterable[Case]) -> Iterator[list[Case]]:
+def split_into_batches_by_expected_output(cases: Iterable[Case]) -> Iterator[list[Case]]:
     """The cases of each run, in their order."""
     batch: list[Case] = []
     room = 0
@@ -95,6 +95,11 @@ def answer_from_status(output: bytes, errors: bytes, status: str) -> ProgramAnsw
     return ProgramAnswer(b"", b"", why, raw=ProcessOutput(output, errors, status))
 
 
+def refuses_words(fault: str) -> bool:
+    """Whether a program gave this as the reason why it doesn't run: it refuses its words, as an older one does."""
+    return fault.startswith(_REFUSES.decode())
+
+
 def with_length_line(octets: bytes) -> bytes:
     """Octets after a line with their number."""
     return b"%d\n%b" % (len(octets), octets)
@@ -107,7 +112,7 @@ def take_whole_length_prefixed_parts(octets: bytearray) -> Iterator[bytes]:
         del octets[:end]
 
 
-def cases_with_program_and_words(program: str, words: Sequence[str], cases: Iterable[Case]) -> Iterator[Case]:
+def cases_prefixed_with_program_and_words(program: str, words: Sequence[str], cases: Iterable[Case]) -> Iterator[Case]:
     """The cases with the words of all, before which the program is named."""
     for it in cases:
         yield Case((program, *words, *it.words), it.given, it.room, it.is_alone)

@@ -59,7 +59,7 @@ def build_if_needed_and_get_folder(
         while not building.is_over:
             poll.poll(1_000)
             stop.raise_if_stopped()
-            building.read_progress()
+            building.read_output_to_update_phase_and_is_over()
             if building.phase:
                 note(building.phase, building.phase_seconds)
         return building.wait_and_require_programs_folder()
@@ -105,7 +105,7 @@ class Build:
         """For how long the phase goes on, in seconds."""
         return time.monotonic() - self._begin
 
-    def read_progress(self) -> None:
+    def read_output_to_update_phase_and_is_over(self) -> None:
         """Takes what the tool says now, without waiting."""
         with suppress(BlockingIOError):
             while octets := os.read(self.fileno(), _READ):

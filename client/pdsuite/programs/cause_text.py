@@ -76,11 +76,17 @@ def dropped_segment_lines_and_rules(cause: Cause) -> Iterator[str]:
             yield f"line {it.get('line')}: {it.get('rule_words')}"
 
 
-def origin_line_or_timer(origin: object) -> str:
-    """The line or the timer that sent a packet; empty where that isn't known."""
+def origin_and_rule_in_words(origin: object) -> str:
+    """The line or the timer that sent a packet, and by which rule, as far as that is known; empty where neither is."""
     if not isinstance(origin, Mapping):
         return ""
-    return f"line {origin['line']}" if "line" in origin else "the timer"
+    sender = f"line {origin['line']}" if "line" in origin else "the timer"
+    return f"{sender}: {origin['rule_words']}" if has_rule(origin) else sender
+
+
+def has_rule(origin: object) -> bool:
+    """Whether the rule is known by which a packet was sent: some programs don't name it."""
+    return isinstance(origin, Mapping) and "rule_words" in origin
 
 
 def unmatched_packets_with_origins(cause: Cause) -> Iterator[tuple[str, object]]:
@@ -92,9 +98,9 @@ def unmatched_packets_with_origins(cause: Cause) -> Iterator[tuple[str, object]]
             yield packet, origin
 
 
-def packet_with_origin_line_or_timer(packet: str, origin: object) -> str:
-    """A packet with what sent it, where that is known."""
-    sender = origin_line_or_timer(origin)
+def packet_with_origin_and_rule(packet: str, origin: object) -> str:
+    """A packet with what sent it, and by which rule, as far as that is known."""
+    sender = origin_and_rule_in_words(origin)
     return f"{packet}, sent by {sender}" if sender else packet
 
 
@@ -109,7 +115,7 @@ def _cause_lines_without_state(cause: Cause) -> Iterator[str]:
         if key in cause:
             value = value_in_words_without_unit(key, cause[key])
             if key == "actual_packet":
-                value = packet_with_origin_line_or_timer(value, cause.get("sent_by"))
+                value = packet_with_origin_and_rule(value, cause.get("sent_by"))
             yield f"{words}: {value}"
     if "text" in cause:
         yield from _line_with_mark(str(cause["text"]), cause.get("column"))
@@ -122,7 +128,7 @@ def _cause_lines_without_state(cause: Cause) -> Iterator[str]:
     for it in dropped_segment_lines_and_rules(cause):
         yield f"dropped: {it}"
     for packet, origin in unmatched_packets_with_origins(cause):
-        yield f"untaken packet: {packet_with_origin_line_or_timer(packet, origin)}"
+        yield f"untaken packet: {packet_with_origin_and_rule(packet, origin)}"
     if more := cause.get("more_untaken_packets"):
         yield f"more untaken packets: {more}"
 
@@ -170,18 +176,18 @@ def _shown_start(line: str, mark: int) -> int:
     if mark < _MOST - _BEFORE_MARK // 2:
         return 0
     start = min(mark - _BEFORE_MARK, max(0, len(line) - _MOST))
-    torn = _torn_escape_start(line, start)
+    torn = _torn_escape_start_or_none(line, start)
     return start if torn is None else torn + _ESCAPED
 
 
 def _shown_end(line: str, start: int) -> int:
     """Where what is shown from a place on ends, before an escape that would be torn."""
     end = min(start + _MOST, len(line))
-    torn = _torn_escape_start(line, end)
+    torn = _torn_escape_start_or_none(line, end)
     return end if torn is None else torn
 
 
-def _torn_escape_start(line: str, place: int) -> int | None:
+def _torn_escape_start_or_none(line: str, place: int) -> int | None:
     """Where the escape begins that a cut at a place would tear."""
     backs = (place - it for it in range(1, _ESCAPED) if place >= it)
     return next((it for it in backs if _ESCAPE.match(line, it)), None)

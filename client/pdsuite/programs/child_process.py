@@ -1,4 +1,4 @@
-"""A process of this client that does a job beside it."""
+"""A process of this client that does a job beside it: its lines are read, and its end is requested or waited for."""
 
 import os
 import subprocess

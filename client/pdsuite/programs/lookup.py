@@ -163,7 +163,7 @@ class SenderGuard:
 
     def has_changed(self) -> bool:
         """Whether one isn't as it was."""
-        return any(_map_in_threads(lambda it: _has_lookup_changed(*it), self._looks))
+        return any(_map_in_threads(lambda it: _have_proved_programs_or_sources_changed(*it), self._looks))
 
 
 def _map_in_threads(work: Callable[[T], U], each: Sequence[T]) -> list[U]:
@@ -177,7 +177,9 @@ def _map_in_threads(work: Callable[[T], U], each: Sequence[T]) -> list[U]:
         return list(pool.map(work, each))
 
 
-def _has_lookup_changed(lookup: ProgramLookup, found: Mapping[str, FoundProgram], sources: Mapping[str, Stamp]) -> bool:
+def _have_proved_programs_or_sources_changed(
+    lookup: ProgramLookup, found: Mapping[str, FoundProgram], sources: Mapping[str, Stamp]
+) -> bool:
     now = lookup.current_programs_or_faults()
     proved = [name for name, it in found.items() if isinstance(it, StampedProgram)]
     return any(now[name] != found[name] for name in proved) if proved else lookup.source_stamps() != sources
@@ -197,7 +199,7 @@ def client_programs_lookup(*names: str) -> ProgramLookup:
     return proved_programs_lookup(TOP, *names)
 
 
-def find_own_tree_if_buildable() -> Path | None:
+def find_client_or_launcher_tree_if_buildable() -> Path | None:
     """The tree whose sender is built without proofs where it isn't proved: that of this client, or of its launchers."""
     if word := environ.get(PROGRAMS_VARIABLE):
         tree = find_tree_if_launcher_folder(Path(word))

@@ -23,8 +23,10 @@ _READ = 1 << 18
 _KEPT = 4_096
 _SHOWN = 200
 _GRACE = 1.0
-# Begins what a program says of a job: its steps, or by keys why it came to its row.
+# Begins what a program says of a job: its steps or its rules, or by keys why it came to its row.
 _OF_JOBS = (b"job ", b"{")
+# Begins the first line of a program that refuses its options.
+_REFUSES = b"error: "
 # The statuses of a program that has read all commands.
 _REGULAR = (0, 1)
 
@@ -74,7 +76,7 @@ class Program:
     def __exit__(self, *error: object) -> None:
         self.kill_and_close()
 
-    def query(self, commands: bytes, longest: int) -> bytes:
+    def query_answer_regardless_of_errors(self, commands: bytes, longest: int) -> bytes:
         """The answer of the program, up to the line `total`. It is read while the commands are written."""
         return self._drive_generator_until_answer(self._answer_until_total_as_generator(commands, longest))
 
@@ -103,7 +105,7 @@ class Program:
         errors, self._errors = self._errors, b""
         return answer, errors
 
-    def wait_until_ready(self) -> None:
+    def wait_until_pipes_ready_or_signal(self) -> None:
         """Waits until the program can be read or written, or a signal comes."""
         self._selector.select()
 
@@ -131,13 +133,13 @@ class Program:
             except StopIteration as end:
                 answer: T = end.value
                 return answer
-            self.wait_until_ready()
+            self.wait_until_pipes_ready_or_signal()
 
     def _raise_if_errors_too_long(self) -> None:
         if len(self._errors) > self._most:
             raise ProgramEndedError(f"{self._name} said more than was asked")
 
-    def finish_and_read_errors(self, commands: bytes, longest: int) -> bytes:
+    def send_last_commands_and_read_errors(self, commands: bytes, longest: int) -> bytes:
         """The standard error of the program at these commands. They are its last, and it ends."""
         self._run_to_regular_end_or_refuse(commands, longest)
         return self._errors
@@ -183,7 +185,9 @@ class Program:
         """The same, of a program that has to end regularly."""
         status = self._run_to_end_and_get_status(commands, longest)
         if status not in _REGULAR:
-            raise ProgramEndedError((self._last_error_line() if status > 0 else "") or self._kill_and_describe_end())
+            raise ProgramEndedError(
+                (self._last_or_refusing_error_line() if status > 0 else "") or self._kill_and_describe_end()
+            )
 
     def _run_to_end_and_get_status(self, commands: bytes, longest: int) -> int:
         """Writes the last of the input, and reads what the program writes until it has ended; its status."""
@@ -279,16 +283,18 @@ class Program:
             self._is_watched(self._err) and (left := until - time.monotonic()) > 0 and self._read_or_write_ready(left)
         ):
             pass
-        if line := self._last_error_line():
+        if line := self._last_or_refusing_error_line():
             return line
         if not self._ends_within_grace():
             return f"{self._name} closed its output"
         return self._kill_and_describe_end()
 
-    def _last_error_line(self) -> str:
-        """The last line that the program printed, if it printed one."""
+    def _last_or_refusing_error_line(self) -> str:
+        """The last line that the program printed, if it printed one; the first where it refuses its options."""
         lines = [line for line in self._errors.split(b"\n") if line.strip() and not line.startswith(_OF_JOBS)]
-        return printable_octets(lines[-1], _SHOWN) if lines else ""
+        if not lines:
+            return ""
+        return printable_octets(lines[0] if lines[0].startswith(_REFUSES) else lines[-1], _SHOWN)
 
     def _kill_and_describe_end(self) -> str:
         """How the program ended, by its status."""

@@ -11,6 +11,8 @@ from pdsuite.scripts.text_edit import Edit
 
 SETTLE = b"settle\n"
 SHOW = b"show\n"
+# The option that has a program list the rules that events come to.
+LIST_RULES = "--rules"
 # The longest row, refusal or line of totals, and more.
 LONGEST_LINE = 256
 # The longest block, and more; and as JSON, where nothing is cut.
@@ -25,8 +27,12 @@ _TOTAL = re.compile(rb"total (\d+) pass \d+ fail \d+ syntax \d+ unsupported \d+ 
 
 # The explanation of a script, by the keys of its JSON.
 Cause = Mapping[str, object]
+# The rules of the sender that the events of a script came to, by the lines of the events.
+RulesByLine = Mapping[int, tuple[str, ...]]
 # The line of a job where a program counts steps: the script's name, and how many steps it took.
 _STEPS = re.compile(rb"^job \d+ (\S+) steps (\d+)$", re.MULTILINE)
+# The line of an event where a program lists rules: the script's name, the event's line, and the rules.
+_RULES = re.compile(rb"^job \d+ (\S+) line (\d+) rules (.+)$", re.MULTILINE)
 
 _WORDS = (Verdict.PASS, Verdict.SYNTAX, Verdict.UNSUPPORTED, Verdict.LIMIT)
 _VERDICTS = {it.value.encode(): it for it in _WORDS}
@@ -118,6 +124,20 @@ def parse_causes_by_script_and_line(errors: bytes) -> dict[tuple[bytes, int], Ca
 def parse_step_counts_by_script(errors: bytes) -> dict[bytes, int]:
     """How many steps jobs took, by the names of their scripts, as a program says that counts them."""
     return {name: int(steps) for name, steps in _STEPS.findall(errors)}
+
+
+def parse_rules_by_script(errors: bytes) -> dict[bytes, RulesByLine]:
+    """The rules that events came to, by the names of their scripts, as a program says that lists them.
+
+    A line of a script that has several events has the rules of all of them, each once.
+    """
+    rules: dict[bytes, dict[int, tuple[str, ...]]] = {}
+    for name, line, words in _RULES.findall(errors):
+        of_script = rules.setdefault(name, {})
+        of_script[int(line)] = tuple(
+            dict.fromkeys([*of_script.get(int(line), ()), *printable_octets(words).split(" ")])
+        )
+    return dict(rules)
 
 
 def _json_object_or_empty(line: bytes) -> Cause:

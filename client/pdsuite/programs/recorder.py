@@ -45,7 +45,9 @@ class Recorder:
         self._program = program
         self._fault = ""
 
-    def record_script_or_note_reason(self, path: str, text: bytes, settings: Settings, word: str = TRACE) -> Recording:
+    def record_script_or_return_and_note_reason(
+        self, path: str, text: bytes, settings: Settings, word: str = TRACE
+    ) -> Recording:
         """The recording of a script, or why there is none: the program refuses it, ends on it, or isn't there.
 
         It has a trace, or is what another option names.

@@ -19,8 +19,8 @@ from pdsuite.programs.batch_protocol import (
     Case,
     batch_input,
     parse_batch_answers_or_faults,
-    cases_with_program_and_words,
-    split_into_batches,
+    cases_prefixed_with_program_and_words,
+    split_into_batches_by_expected_output,
 )
 from pdsuite.programs.build import BuildError
 from pdsuite.programs.locate import BATCH_TOOL
@@ -45,18 +45,21 @@ def build_and_run_cases(groups: Sequence[ProgramCases], stop: Stop) -> list[list
     """The answers to the cases of each program; both programs of a tree are built as one, and trees side by side."""
     cases: dict[Path, list[Case]] = {it.tree: [] for it in groups}
     for it in groups:
-        cases[it.tree] += cases_with_program_and_words(it.program, it.words, it.cases)
+        cases[it.tree] += cases_prefixed_with_program_and_words(it.program, it.words, it.cases)
     with ThreadPoolExecutor(min(len(os.sched_getaffinity(0)), _MOST)) as pool:
         answered = list(
             pool.map(
-                lambda tree: _build_and_answer_batched_cases(tree, list(split_into_batches(cases[tree])), stop), cases
+                lambda tree: _answer_all_batches_by_one_build(
+                    tree, list(split_into_batches_by_expected_output(cases[tree])), stop
+                ),
+                cases,
             )
         )
     answers = {tree: iter(each) for tree, each in zip(cases, answered)}
     return [list(islice(answers[it.tree], len(it.cases))) for it in groups]
 
 
-def _build_and_answer_batched_cases(tree: Path, batches: Sequence[Sequence[Case]], stop: Stop) -> list[ProgramAnswer]:
+def _answer_all_batches_by_one_build(tree: Path, batches: Sequence[Sequence[Case]], stop: Stop) -> list[ProgramAnswer]:
     """The answers of a tree's programs, which are built for them."""
     stop.raise_if_stopped()
     with tempfile.TemporaryDirectory(prefix="pdsuite-") as folder:

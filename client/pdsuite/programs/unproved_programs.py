@@ -1,5 +1,6 @@
 """The programs of a command where none are proved: a build of the tree as it stands, made now if none is kept."""
 
+import shlex
 from collections.abc import Callable
 from contextlib import suppress
 from pathlib import Path
@@ -26,12 +27,12 @@ def proved_or_built_program(name: str, stop: Stop, screen: Screen) -> Path:
     try:
         return locate_given_or_proved_program(name)
     except UnprovedError:
-        if not (BATCH_TOOL.is_file() and build_and_use_programs_if_possible("plain", stop, screen)):
+        if not (BATCH_TOOL.is_file() and use_kept_or_new_build_if_possible("plain", stop, screen)):
             raise
     return locate_given_or_proved_program(name)
 
 
-def build_and_use_programs_if_possible(way: BuildMode, stop: Stop, screen: Screen) -> bool:
+def use_kept_or_new_build_if_possible(way: BuildMode, stop: Stop, screen: Screen) -> bool:
     """Has the programs of this call be a build of the tree as it stands; whether there can be one.
 
     A line says first that they aren't proved, and on a terminal another one how far the build is.
@@ -61,8 +62,8 @@ def unproved_notice(is_kept: bool) -> str:
 
 
 def _prove_command() -> str:
-    """The command that proves the programs of this tree, as it is written from here."""
+    """The command that proves the programs of this tree, as it is written from here, for a shell."""
     with suppress(OSError):
         if Path.cwd() == TOP:
             return "./prove"
-    return printable_path(TOP / "prove")
+    return shlex.quote(printable_path(TOP / "prove"))

@@ -11,7 +11,7 @@ from pdsuite.programs.batch_protocol import (
     Case,
     answer_from_status,
     batch_input,
-    cases_with_program_and_words,
+    cases_prefixed_with_program_and_words,
     take_whole_length_prefixed_parts,
 )
 from pdsuite.programs.build import BuildError
@@ -50,14 +50,14 @@ class UnprovedSession:
 
     def wait_silently_until_built(self) -> None:
         """Waits until the programs are built."""
-        self._get_answers_until_programs_end([Case((RECORD,), b"")])
+        self._query_all_cases_or_until_programs_end([Case((RECORD,), b"")])
 
     def run_cases(self, cases: ProgramCases) -> list[ProgramAnswer]:
         """The answers to the cases of a build of this tree."""
-        left = list(cases_with_program_and_words(cases.program, cases.words, cases.cases))
+        left = list(cases_prefixed_with_program_and_words(cases.program, cases.words, cases.cases))
         answers: list[ProgramAnswer] = []
         while left:
-            answered = self._get_answers_until_programs_end(left)
+            answered = self._query_all_cases_or_until_programs_end(left)
             answers += answered
             left = left[len(answered) :]
             if left:
@@ -80,7 +80,7 @@ class UnprovedSession:
         for each in (self._requests, self._answers):
             os.close(each)
 
-    def _get_answers_until_programs_end(self, cases: Sequence[Case]) -> list[ProgramAnswer]:
+    def _query_all_cases_or_until_programs_end(self, cases: Sequence[Case]) -> list[ProgramAnswer]:
         """The answers to the cases, up to one on which the programs end."""
         unsent = memoryview(batch_input(cases))
         got = bytearray()

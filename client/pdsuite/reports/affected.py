@@ -34,10 +34,10 @@ def _one_report_line_per_row_file(rows: Sequence[AffectedRow]) -> Iterator[str]:
     for file, mine in groupby(rows, key=lambda it: it.file):
         lines = [it.line for it in mine]
         word = "line" if len(lines) == 1 else f"{len(lines)} rows, lines"
-        yield f"{printable_text(file)}: {word} {', '.join(_collapse_ranges(lines))}"
+        yield f"{printable_text(file)}: {word} {', '.join(collapse_ranges(lines))}"
 
 
-def _collapse_ranges(numbers: Sequence[int]) -> Iterator[str]:
+def collapse_ranges(numbers: Sequence[int]) -> Iterator[str]:
     """Numbers, those that follow one another as `FIRST-LAST`."""
     for _, each in groupby(enumerate(numbers), key=lambda it: it[1] - it[0]):
         span = [number for _, number in each]

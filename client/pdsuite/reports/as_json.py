@@ -6,7 +6,7 @@ from dataclasses import dataclass
 from functools import cache
 
 from pdsuite.output.octets import printable_path
-from pdsuite.output.styled_text import StyledText, unstyled_text
+from pdsuite.output.styled_text import StyledText, styled_text_of_one_plain_piece
 from pdsuite.programs.verdict import Verdict
 from pdsuite.reports.outcome_text import explanation_or_line_below_row
 from pdsuite.run.outcomes import UNPROVED, CountedAs, ScriptOutcome, OutcomeTotals
@@ -26,11 +26,13 @@ class JsonFormatter:
     shard: Shard | None = None
 
     def opening_before_scripts(self, count: int) -> StyledText:
-        return unstyled_text(f'{{"version": {VERSION}, "scripts": [')
+        return styled_text_of_one_plain_piece(f'{{"version": {VERSION}, "scripts": [')
 
     def streamed_script_entry_or_none(self, number: int, outcome: ScriptOutcome) -> StyledText:
         begin = "\n" if number == 1 else ",\n"
-        return unstyled_text(begin + script_json(outcome, printable_path(outcome.path), outcome.explanation))
+        return styled_text_of_one_plain_piece(
+            begin + script_json(outcome, printable_path(outcome.path), outcome.explanation)
+        )
 
     def totals_after_scripts(self, totals: OutcomeTotals, seconds: float) -> StyledText:
         counts = {it.value: totals.counts[it] for it in Verdict}
@@ -40,7 +42,7 @@ class JsonFormatter:
         total = json.dumps({"scripts": totals.script_count, **counts})
         shard = "" if self.shard is None else f', "shard": "{self.shard}"'
         unproved = f', "{UNPROVED}": true' if totals.is_unproved else ""
-        return unstyled_text(f'\n], "total": {total}, "seconds": {seconds:.2f}{shard}{unproved}}}\n')
+        return styled_text_of_one_plain_piece(f'\n], "total": {total}, "seconds": {seconds:.2f}{shard}{unproved}}}\n')
 
 
 def script_json(outcome: ScriptOutcome, path: str, explanation: Mapping[str, object] | None = None) -> str:

@@ -9,11 +9,13 @@ from pdsuite.compare.comparison import ComparedScript, ComparisonKind, KindCount
 from pdsuite.compare.divergence import Divergence, PlayedEvent
 from pdsuite.compare.groups import Group, group_by_first_difference
 from pdsuite.compare.quantities import Quantity
+from pdsuite.compare.rule_changes import RuleChanges
 from pdsuite.output.octets import printable_path, printable_text
-from pdsuite.output.styled_text import StyledText, unstyled_text
+from pdsuite.output.styled_text import StyledText, styled_text_of_one_plain_piece
 from pdsuite.reports.affected import affected_lines
-from pdsuite.reports.outcome_text import explanation_or_line_below_row, meaning_suffix
-from pdsuite.reports.quantities import changed_quantities_json_object, quantity_lines_of_all_scripts
+from pdsuite.reports.outcome_text import explanation_or_line_below_row, row_meaning_suffix_if_explained
+from pdsuite.reports.quantities import changed_quantities_json_object, total_and_changed_quantity_lines
+from pdsuite.reports.rule_changes import rule_changes_json_object, rule_changes_text
 from pdsuite.run.outcomes import UNPROVED, ScriptOutcome
 
 _STYLES = {ComparisonKind.TURNED: "bold red", ComparisonKind.OTHERWISE: "yellow"}
@@ -31,7 +33,7 @@ def compared_script_lines(it: ComparedScript) -> list[str]:
         else []
     )
     if it.divergence is not None:
-        return [*lines, *_divergence_lines(it.divergence)]
+        return [*lines, *_lines_of_first_divergence_and_state(it.divergence)]
     if it.kind is ComparisonKind.OTHERWISE:
         lines += [f"{side}: {_whether_recorded_in_words(why)}" for side, why in zip(_SIDES, it.unrecorded)]
     return lines
@@ -39,11 +41,11 @@ def compared_script_lines(it: ComparedScript) -> list[str]:
 
 def _outcome_lines_of_one_side(side: str, outcome: ScriptOutcome) -> Iterator[str]:
     line = "" if outcome.explained_or_row_line_number is None else f"line {outcome.explained_or_row_line_number}: "
-    yield f"{side}: {line}{outcome.row}{meaning_suffix(outcome)}"
+    yield f"{side}: {line}{outcome.row}{row_meaning_suffix_if_explained(outcome)}"
     yield from (f"  {it}" for it in explanation_or_line_below_row(outcome))
 
 
-def _divergence_lines(it: Divergence) -> Iterator[str]:
+def _lines_of_first_divergence_and_state(it: Divergence) -> Iterator[str]:
     yield "the first event that differs:"
     yield f"  before: {_event_or_nothing_more(it.before)}"
     yield f"  after:  {_event_or_nothing_more(it.after)}"
@@ -66,7 +68,8 @@ def _whether_recorded_in_words(why: str) -> str:
 class ComparisonReport:
     """The report of a comparison: scripts, what is affected in a tree, the seconds, and whether it is unproved.
 
-    Scripts whose quantities changed are sorted by one of them. With `is_every` all scripts are reported whole.
+    Scripts whose quantities changed are sorted by one of them. With `is_every` all scripts are reported whole. The
+    rules that other scripts come to are reported where they were requested.
     """
 
     compared: Sequence[ComparedScript]
@@ -75,6 +78,7 @@ class ComparisonReport:
     is_unproved: bool
     sort: Quantity = Quantity.TIME
     is_every: bool = False
+    rules: RuleChanges | None = None
 
     def groups_by_kind_and_difference(self) -> Iterator[tuple[ComparisonKind, Group]]:
         """The groups of the scripts that turned, and then of those that are played otherwise."""
@@ -90,7 +94,7 @@ def compared_script_entry(it: ComparedScript) -> StyledText:
 
 
 def plain_comparison(report: ComparisonReport) -> StyledText:
-    """Scripts that turned, those that are played otherwise, totals by folder, and what is affected in the tree."""
+    """Scripts that turned, those that are played otherwise, totals by folder, rules, and what is affected in a tree."""
     text = StyledText()
     for kind, group in report.groups_by_kind_and_difference():
         whole = len(group.scripts) if report.is_every else 1
@@ -102,11 +106,13 @@ def plain_comparison(report: ComparisonReport) -> StyledText:
             text.append(f"{printable_path(it.path)}: ").append(kind, _STYLES[kind])
             text.append(f": {it.comment}\n" if it.comment else "\n")
     text.append(
-        "".join(f"{line}\n" for line in quantity_lines_of_all_scripts(report.compared, report.sort, report.is_every))
+        "".join(f"{line}\n" for line in total_and_changed_quantity_lines(report.compared, report.sort, report.is_every))
     )
     *folders, total = counts_by_folder_and_total(report.compared)
     for count in folders:
         text.append(f"{printable_path(count.name)}: {count.counts_in_words}\n")
+    if report.rules is not None:
+        text.append_text(rule_changes_text(report.rules, report.is_every))
     if report.affected is not None:
         text.append("".join(f"{line}\n" for line in affected_lines(report.affected)))
     mark = f" {UNPROVED}" if report.is_unproved else ""
@@ -114,7 +120,7 @@ def plain_comparison(report: ComparisonReport) -> StyledText:
 
 
 def comparison_json(report: ComparisonReport, names: tuple[str, str]) -> StyledText:
-    """One object: the two senders, scripts that differ, totals by folder, and what is affected in the tree."""
+    """One object: the two senders, scripts that differ, totals by folder, rules, and what is affected in the tree."""
     *folders, total = counts_by_folder_and_total(report.compared)
     whole: dict[str, object] = {
         "version": VERSION,
@@ -126,11 +132,13 @@ def comparison_json(report: ComparisonReport, names: tuple[str, str]) -> StyledT
         "total": _counts_by_kind(total),
         "seconds": round(report.seconds, 2),
     }
+    if report.rules is not None:
+        whole["rules"] = rule_changes_json_object(report.rules)
     if report.affected is not None:
         whole["affected"] = asdict(report.affected)
     if report.is_unproved:
         whole[UNPROVED] = True
-    return unstyled_text(json.dumps(whole, ensure_ascii=False, indent=1) + "\n")
+    return styled_text_of_one_plain_piece(json.dumps(whole, ensure_ascii=False, indent=1) + "\n")
 
 
 def _counts_by_kind(count: KindCounts) -> dict[str, int]:

@@ -4,11 +4,20 @@ from collections.abc import Iterator
 
 from pdsuite.compare.comparison import ComparedScript, ComparisonKind, counts_by_folder_and_total
 from pdsuite.compare.groups import Group
+from pdsuite.compare.rule_changes import RuleChange, RuleChanges
 from pdsuite.output.octets import printable_path
-from pdsuite.output.styled_text import StyledText, unstyled_text
+from pdsuite.output.styled_text import StyledText, styled_text_of_one_plain_piece
 from pdsuite.reports.affected import affected_lines
 from pdsuite.reports.comparison import ComparisonReport, compared_script_lines
-from pdsuite.reports.quantities import quantity_lines_of_all_scripts
+from pdsuite.reports.quantities import total_and_changed_quantity_lines
+from pdsuite.reports.rule_changes import (
+    UNREACHED,
+    line_if_unknown_or_unchanged,
+    line_on_scripts_left_out,
+    script_counts_in_words,
+    scripts_with_their_lines,
+    way_to_first_script,
+)
 from pdsuite.run.outcomes import UNPROVED
 
 # Longer than any row of backquotes that a script may have is no fence; so the text stands indented.
@@ -17,7 +26,7 @@ _INDENT = "    "
 
 def whole_comparison_as_markdown(report: ComparisonReport, names: tuple[str, str]) -> StyledText:
     """A summary, a part for each group, and what else is reported, folded."""
-    return unstyled_text("".join(f"{line}\n" for line in _markdown_lines(report, names)))
+    return styled_text_of_one_plain_piece("".join(f"{line}\n" for line in _markdown_lines(report, names)))
 
 
 def _markdown_lines(report: ComparisonReport, names: tuple[str, str]) -> Iterator[str]:
@@ -29,7 +38,9 @@ def _markdown_lines(report: ComparisonReport, names: tuple[str, str]) -> Iterato
     yield f"- {total.counts_in_words}{f' ({UNPROVED})' if report.is_unproved else ''}"
     for kind, group in report.groups_by_kind_and_difference():
         yield from _group_lines(kind, group, report.is_every)
-    more = list(quantity_lines_of_all_scripts(report.compared, report.sort, report.is_every))
+    if report.rules is not None:
+        yield from _rule_lines(report.rules, report.is_every)
+    more = list(total_and_changed_quantity_lines(report.compared, report.sort, report.is_every))
     more += [] if report.affected is None else affected_lines(report.affected)
     if more:
         yield from _details_block("Quantities and what is affected" if report.affected else "Quantities", more)
@@ -57,6 +68,26 @@ def _script_lines(it: ComparedScript) -> Iterator[str]:
     yield ""
     yield from (f"{_INDENT}{line}" for line in compared_script_lines(it))
     yield ""
+
+
+def _rule_lines(found: RuleChanges, is_every: bool) -> Iterator[str]:
+    yield ""
+    if line := line_if_unknown_or_unchanged(found):
+        yield f"### {_escape_markup_but_backquotes(line)}"
+        return
+    count = len(found.changes)
+    yield f"### rules: other scripts come to {count} {'rule' if count == 1 else 'rules'}"
+    yield ""
+    for it in found.changes:
+        yield from _lines_on_rule(it, is_every)
+
+
+def _lines_on_rule(it: RuleChange, is_every: bool) -> Iterator[str]:
+    yield f"- {_as_code(it.name)}: {script_counts_in_words(it)}"
+    if not it.after:
+        yield f"  - **{UNREACHED}**: {way_to_first_script(it)}"
+    yield from (f"  - {_as_code(path)}: {words}" for path, words in scripts_with_their_lines(it, is_every))
+    yield from (f"  - {line}" for line in line_on_scripts_left_out(it, is_every))
 
 
 def _details_block(title: str, lines: list[str]) -> Iterator[str]:

@@ -23,16 +23,16 @@ def line_diff_lines(differences: LineDiff) -> Iterator[str]:
 
 def _event_lines(it: DiffLine) -> Iterator[str]:
     if it.line is None:
-        yield _format_line("", "+", f"{packet_in_columns(it.met)} ({_UNEXPECTED})")
+        yield _join_line_number_sign_and_text("", "+", f"{packet_in_columns(it.met)} ({_UNEXPECTED})")
         return
-    yield _format_line(str(it.line), "-" if it.differs else " ", packet_in_columns(it.script))
+    yield _join_line_number_sign_and_text(str(it.line), "-" if it.differs else " ", packet_in_columns(it.script))
     if it.differs:
-        yield _format_line("", "+", packet_in_columns(it.met) or _NOTHING)
+        yield _join_line_number_sign_and_text("", "+", packet_in_columns(it.met) or _NOTHING)
         if marks := _mark_line(it.met or it.script):
-            yield _format_line("", "?", marks)
+            yield _join_line_number_sign_and_text("", "?", marks)
 
 
-def _format_line(number: str, sign: str, text: str) -> str:
+def _join_line_number_sign_and_text(number: str, sign: str, text: str) -> str:
     return f"{number:>{_NUMBER}} {sign} {text}".rstrip()
 
 

@@ -1,4 +1,4 @@
-"""A report for people whose lines fit a terminal."""
+"""Wraps the entries and totals of another report form at the terminal's width; the opening passes unchanged."""
 
 import textwrap
 from collections.abc import Callable
@@ -30,7 +30,7 @@ class FittingFormatter:
 
     def totals_after_scripts(self, totals: OutcomeTotals, seconds: float) -> StyledText:
         foot, width = self.form.totals_after_scripts(totals, seconds), self.width()
-        if width is None or len(foot.plain) <= columns_without_autowrap(width):
+        if width is None or len(foot.text_without_styles) <= columns_without_autowrap(width):
             return foot
-        lines = textwrap.wrap(foot.plain, columns_without_autowrap(width))
+        lines = textwrap.wrap(foot.text_without_styles, columns_without_autowrap(width))
         return StyledText([("".join(f"{line}\n" for line in lines), foot.pieces[0][1])])

@@ -24,4 +24,4 @@ def format_report(form: Formatter, outcomes: Sequence[ScriptOutcome], totals: Ou
     """A report of outcomes that are all there."""
     entries = (form.streamed_script_entry_or_none(number, it) for number, it in enumerate(outcomes, 1))
     parts = [form.opening_before_scripts(len(outcomes)), *entries, form.totals_after_scripts(totals, seconds)]
-    return "".join(it.plain for it in parts if it is not None)
+    return "".join(it.text_without_styles for it in parts if it is not None)

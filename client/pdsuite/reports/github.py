@@ -7,12 +7,12 @@ from collections.abc import Iterator, Sequence
 from pathlib import Path
 
 from pdsuite.output.octets import printable_path
-from pdsuite.output.styled_text import StyledText, unstyled_text
+from pdsuite.output.styled_text import StyledText, styled_text_of_one_plain_piece
 from pdsuite.programs.verdict import Verdict
 from pdsuite.reports.outcome_text import (
-    heading_line,
+    explained_reason_or_meaning_of_row,
     explanation_or_line_below_row,
-    reason_for_row,
+    place_row_and_meaning_line,
     row_text_with_expected_row,
     warning_lines_of,
     warning_texts,
@@ -49,7 +49,10 @@ class GithubFormatter:
             return None
         lines: list[str] = []
         if outcome.counted_as is not Verdict.PASS:
-            text_lines = [heading_line(outcome), *(f"  {it}" for it in explanation_or_line_below_row(outcome))]
+            text_lines = [
+                place_row_and_meaning_line(outcome),
+                *(f"  {it}" for it in explanation_or_line_below_row(outcome)),
+            ]
             lines.append(
                 self._annotation_or_row_past_limit(
                     "notice" if outcome.is_known_failure else "error", outcome, _annotation_title(outcome), text_lines
@@ -58,12 +61,12 @@ class GithubFormatter:
         level = "error" if outcome.is_strict else "warning"
         each = zip(warning_texts(outcome), warning_lines_of(outcome))
         lines += [self._annotation_or_row_past_limit(level, outcome, title, [line]) for title, line in each]
-        return unstyled_text("".join(lines)) if lines else None
+        return styled_text_of_one_plain_piece("".join(lines)) if lines else None
 
     def totals_after_scripts(self, totals: OutcomeTotals, seconds: float) -> StyledText:
         left = {level: count - _MOST for level, count in self._counts.items() if count > _MOST}
         more = [f"and {count:,} more {level}{'s' if count > 1 else ''}\n" for level, count in sorted(left.items())]
-        return unstyled_text("".join(more) + f"{totals} in {seconds:.2f} s{totals.unproved_mark}\n")
+        return styled_text_of_one_plain_piece("".join(more) + f"{totals} in {seconds:.2f} s{totals.unproved_mark}\n")
 
     def _annotation_or_row_past_limit(
         self, level: str, outcome: ScriptOutcome, title: str, text_lines: Sequence[str]
@@ -75,7 +78,7 @@ class GithubFormatter:
         where = f"file={_escape_percent_colon_comma(printable_path(self._path_from_repository_root(outcome.path)))}"
         if outcome.explained_or_row_line_number is not None:
             where += f",line={outcome.explained_or_row_line_number}"
-        message = "%0A".join(map(_escape_percent_signs, text_lines))
+        message = "%0A".join(map(_escape_only_percent_signs, text_lines))
         return f"::{level} {where},title={_escape_percent_colon_comma(title)}::{message}\n"
 
     def _path_from_repository_root(self, path: str) -> str:
@@ -122,7 +125,7 @@ def _summary_rows_of_script(outcome: ScriptOutcome) -> Iterator[str]:
             path,
             "" if outcome.explained_or_row_line_number is None else str(outcome.explained_or_row_line_number),
             row_text_with_expected_row(outcome),
-            reason_for_row(outcome),
+            explained_reason_or_meaning_of_row(outcome),
         )
     for warning in warning_texts(outcome):
         yield _table_row(path, "", str(row), warning)
@@ -147,9 +150,9 @@ def _repository_root(folder: str) -> str:
     return workspace if workspace and here.is_relative_to(workspace) else ""
 
 
-def _escape_percent_signs(text: str) -> str:
+def _escape_only_percent_signs(text: str) -> str:
     return text.replace("%", "%25")
 
 
 def _escape_percent_colon_comma(text: str) -> str:
-    return _escape_percent_signs(text).replace(":", "%3A").replace(",", "%2C")
+    return _escape_only_percent_signs(text).replace(":", "%3A").replace(",", "%2C")

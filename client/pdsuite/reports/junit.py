@@ -7,7 +7,12 @@ from datetime import UTC, datetime, timedelta
 
 from pdsuite.output.octets import printable_path
 from pdsuite.programs.verdict import Verdict
-from pdsuite.reports.outcome_text import heading_line, explanation_or_line_below_row, one_line_summary, warning_lines_of
+from pdsuite.reports.outcome_text import (
+    explanation_or_line_below_row,
+    one_line_summary,
+    place_row_and_meaning_line,
+    warning_lines_of,
+)
 from pdsuite.run.outcomes import UNPROVED, ScriptOutcome
 
 # The line of a script that none is named of.
@@ -106,7 +111,7 @@ def _failures_errors_or_skips_of_case(outcome: ScriptOutcome) -> Sequence[_Resul
         return (_Result(_ERROR, text_line, outcome.counted_as.value, text_line),)
     text = "\n".join(
         [
-            heading_line(outcome),
+            place_row_and_meaning_line(outcome),
             *(f"  {it}" for it in explanation_or_line_below_row(outcome)),
             *warning_lines_of(outcome),
         ]

@@ -14,12 +14,12 @@ from pdsuite.run.outcomes import ScriptOutcome
 PrintNote = Callable[[str], None]
 
 
-def scripts_failed_last(paths: Sequence[Path]) -> frozenset[str]:
+def paths_of_scripts_failed_last_or_fault(paths: Sequence[Path]) -> frozenset[str]:
     """The absolute paths of the scripts that didn't pass when these paths were run last."""
     report = LastReport(paths).load_if_kept()
     if report is None:
         raise Fault(f"{_comma_separated_paths(paths)}: no run has left a report: run it without --last-failed first")
-    return frozenset(path for path, it in report.rows.items() if it.is_failing)
+    return frozenset(path for path, it in report.rows.items() if it.is_run_and_makes_run_fail)
 
 
 def formatter_of_new_rows_only(form: Formatter, turned: Formatter, paths: Sequence[Path], note: PrintNote) -> Formatter:

@@ -1,4 +1,4 @@
-"""A report of those rows alone that are other than they were before."""
+"""Shows only rows unlike an earlier report's: new ones by one form, changed ones by another; totals pass unchanged."""
 
 from collections.abc import Callable
 from dataclasses import dataclass

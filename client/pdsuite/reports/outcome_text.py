@@ -17,7 +17,7 @@ def path_and_line(outcome: ScriptOutcome) -> str:
     return path if outcome.explained_or_row_line_number is None else f"{path}:{outcome.explained_or_row_line_number}"
 
 
-def meaning_suffix(outcome: ScriptOutcome) -> str:
+def row_meaning_suffix_if_explained(outcome: ScriptOutcome) -> str:
     """The words after the row: its meaning, where that is explained."""
     why = _expected_syntax_or_reason(outcome) if outcome.row.verdict is Verdict.SYNTAX else outcome.why
     return f": {why}" if why else ""
@@ -33,12 +33,12 @@ def row_text_with_expected_row(outcome: ScriptOutcome) -> str:
     return f'{row}, though "{outcome.expected.row}" is expected ({outcome.expected.reason})'
 
 
-def heading_line(outcome: ScriptOutcome) -> str:
+def place_row_and_meaning_line(outcome: ScriptOutcome) -> str:
     """The line of an outcome: its place, its row and what that means."""
-    return f"{path_and_line(outcome)}: {row_text_with_expected_row(outcome)}{meaning_suffix(outcome)}"
+    return f"{path_and_line(outcome)}: {row_text_with_expected_row(outcome)}{row_meaning_suffix_if_explained(outcome)}"
 
 
-def reason_for_row(outcome: ScriptOutcome) -> str:
+def explained_reason_or_meaning_of_row(outcome: ScriptOutcome) -> str:
     """Why a row is so, where that is explained: the reason, or what the row means, with the rule that stops it."""
     if outcome.row.verdict is Verdict.FAIL:
         found = (it.removeprefix(_REASON) for it in outcome.block_lines if it.startswith(_REASON))
@@ -60,7 +60,7 @@ def _expected_syntax_or_reason(outcome: ScriptOutcome) -> str:
 
 def one_line_summary(outcome: ScriptOutcome) -> str:
     """An outcome in one line: its place, its row and the reason."""
-    why = reason_for_row(outcome)
+    why = explained_reason_or_meaning_of_row(outcome)
     return f"{path_and_line(outcome)}: {row_text_with_expected_row(outcome)}" + (f": {why}" if why else "")
 
 

@@ -3,12 +3,12 @@
 from dataclasses import dataclass
 
 
-from pdsuite.output.styled_text import StyledText, unstyled_text
+from pdsuite.output.styled_text import StyledText, styled_text_of_one_plain_piece
 from pdsuite.programs.verdict import Verdict
 from pdsuite.reports.outcome_text import (
     explanation_or_line_below_row,
-    meaning_suffix,
     path_and_line,
+    row_meaning_suffix_if_explained,
     row_text_with_expected_row,
     warning_lines_of,
 )
@@ -45,7 +45,7 @@ class PlainFormatter:
             return self.styled_warnings(outcome) if outcome.warnings else None
         if outcome.warnings or outcome.is_known_failure:
             return self.row_and_warnings(outcome)
-        line = self.styled_path_and_row(outcome).append(meaning_suffix(outcome))
+        line = self.styled_path_and_row(outcome).append(row_meaning_suffix_if_explained(outcome))
         below = "".join(
             f"  {it}\n" for it in [*explanation_or_line_below_row(outcome), *_line_diff_lines_if_requested(outcome)]
         )
@@ -53,7 +53,7 @@ class PlainFormatter:
 
     def styled_path_and_row(self, outcome: ScriptOutcome) -> StyledText:
         """A script's row alone."""
-        return unstyled_text(f"{path_and_line(outcome)}: ").append(
+        return styled_text_of_one_plain_piece(f"{path_and_line(outcome)}: ").append(
             row_text_with_expected_row(outcome), _STYLES[outcome.counted_as]
         )
 

@@ -23,7 +23,9 @@ _NAMES = {
 }
 
 
-def quantity_lines_of_all_scripts(compared: Sequence[ComparedScript], sort: Quantity, is_every: bool) -> Iterator[str]:
+def total_and_changed_quantity_lines(
+    compared: Sequence[ComparedScript], sort: Quantity, is_every: bool
+) -> Iterator[str]:
     """A line for all scripts, and one for each whose quantities changed, the largest change first."""
     changes = sorted_quantity_changes(compared, sort)
     if not changes:

@@ -46,11 +46,11 @@ class Report:
         """Shows what is left, and the totals."""
         self._screen.clear_live_lines()
         self._show_and_keep_outcomes(self.unshown_or_not_run_outcomes())
-        totals = self.totals_of(self.outcomes)
+        totals = self.outcome_totals_with_unproved_flag(self.outcomes)
         self._screen.show(self._form.totals_after_scripts(totals, seconds))
         return totals
 
-    def totals_of(self, outcomes: Iterable[ScriptOutcome]) -> OutcomeTotals:
+    def outcome_totals_with_unproved_flag(self, outcomes: Iterable[ScriptOutcome]) -> OutcomeTotals:
         """The totals of outcomes of this report."""
         return replace(OutcomeTotals.of_outcomes(outcomes), is_unproved=self.is_unproved)
 

@@ -4,7 +4,7 @@ from collections.abc import Iterator
 from dataclasses import dataclass
 from enum import StrEnum
 
-from pdsuite.programs.verdict import Row, Verdict
+from pdsuite.programs.verdict import Verdict
 from pdsuite.reports.saved_reports import SavedRow, SavedRows
 
 
@@ -32,7 +32,7 @@ class RowChange:
     now: SavedRow | None
 
     @property
-    def is_worse(self) -> bool:
+    def is_unexpected_failure_or_pass_not_run(self) -> bool:
         """Whether something got worse: of a script that wasn't run, what passed before may fail now.
 
         A row that is expected is no worse than any other.
@@ -55,31 +55,33 @@ def row_changes_sorted_by_kind(before: SavedRows, now: SavedRows) -> list[RowCha
 def _find_row_changes(before: SavedRows, now: SavedRows) -> Iterator[RowChange]:
     for path in {**before, **now}:
         old, new = before.get(path), now.get(path)
-        kind = _change_kind(_row_if_run(old), None if new is None else new.row)
+        kind = _change_kind(_row_if_run(old), new)
         if kind is not None:
             yield RowChange(path, kind, old, new)
 
 
-def _change_kind(old: Row | None, new: Row | None) -> RowChangeKind | None:
+def _change_kind(old: SavedRow | None, new: SavedRow | None) -> RowChangeKind | None:
     """How a script turned whose rows are these, if it did."""
-    if new is None or new.verdict is Verdict.NOT_RUN:
+    if new is None or new.row.verdict is Verdict.NOT_RUN:
         return None if old is None else RowChangeKind.GONE if new is None else RowChangeKind.NOT_RUN
     if old is None:
         return RowChangeKind.NEW
-    if new.verdict is Verdict.PASS:
-        return None if old.verdict is Verdict.PASS else RowChangeKind.AGAIN
-    if old.verdict is Verdict.PASS:
+    if _passes(new):
+        return None if _passes(old) else RowChangeKind.AGAIN
+    if _passes(old):
         return RowChangeKind.NO_MORE
-    return None if old == new else RowChangeKind.OTHERWISE
+    is_same = old.row == new.row or old.row.verdict is new.row.verdict is Verdict.PASS
+    return None if is_same else RowChangeKind.OTHERWISE
 
 
-def _row_if_run(saved: SavedRow | None) -> Row | None:
+def _row_if_run(saved: SavedRow | None) -> SavedRow | None:
     """A script's row; one that wasn't run has none."""
-    return None if saved is None or saved.row.verdict is Verdict.NOT_RUN else saved.row
+    return None if saved is None or saved.row.verdict is Verdict.NOT_RUN else saved
 
 
 def _passes(saved: SavedRow | None) -> bool:
-    return saved is not None and saved.row.verdict is Verdict.PASS
+    """Whether a script passes, and fails by no strict warning."""
+    return saved is not None and saved.row.verdict is Verdict.PASS and not saved.fails_by_strict_warning
 
 
 def _has_expected_row(saved: SavedRow | None) -> bool:

@@ -24,13 +24,18 @@ class SavedRow:
     is_known: bool | None = None  # whether the row is the one that is expected, where one is
 
     @property
-    def is_failing(self) -> bool:
+    def is_run_and_makes_run_fail(self) -> bool:
         """Whether the script was run and made the run fail."""
         if self.row.verdict is Verdict.NOT_RUN:
             return False
         if self.is_known is not None:
             return not self.is_known
         return self.row.verdict is not Verdict.PASS or self.is_strict
+
+    @property
+    def fails_by_strict_warning(self) -> bool:
+        """Whether a warning alone makes the script fail. Where a row is expected, that decides, whatever is strict."""
+        return self.row.verdict is Verdict.PASS and self.is_strict and self.is_known is None
 
 
 # By their paths, as people see them.
@@ -65,7 +70,7 @@ def read_reports_as_one(paths: Sequence[Path]) -> SavedReport:
 
 def join_reports(place: str, reports: Sequence[SavedReport]) -> SavedReport:
     """Reports as one: each script stands in one of them."""
-    shards = _require_distinct_shards_of_one_run(reports)
+    shards = _distinct_shards_of_one_run_or_fault(reports)
     rows: dict[str, SavedRow] = {}
     places: dict[str, str] = {}
     for report in reports:
@@ -76,7 +81,7 @@ def join_reports(place: str, reports: Sequence[SavedReport]) -> SavedReport:
     return SavedReport(place, rows, shards)
 
 
-def _require_distinct_shards_of_one_run(reports: Sequence[SavedReport]) -> frozenset[Shard]:
+def _distinct_shards_of_one_run_or_fault(reports: Sequence[SavedReport]) -> frozenset[Shard]:
     known: dict[Shard, str] = {}
     for report in reports:
         if _shard_counts(report) != _shard_counts(reports[0]):
@@ -161,7 +166,7 @@ def _parse_shard_field(place: str, report: Mapping[str, object]) -> frozenset[Sh
 def _parse_rows_by_unique_path(place: str, scripts: Iterable[object]) -> dict[str, SavedRow]:
     rows: dict[str, SavedRow] = {}
     for number, script in enumerate(scripts, 1):
-        path, row = _find_printable_path_field(script), _row_of_entry_if_well_formed(script)
+        path, row = _find_printable_path_field(script), _parse_verdict_row_if_well_formed(script)
         if path is None or row is None:
             raise Fault(
                 f"{place}: no report of pdsuite run --json: script {number:,} has no path and row that it writes"
@@ -193,7 +198,7 @@ def _find_printable_path_field(script: object) -> str | None:
     return None
 
 
-def _row_of_entry_if_well_formed(script: object) -> Row | None:
+def _parse_verdict_row_if_well_formed(script: object) -> Row | None:
     match script:
         case {"verdict": Verdict.PASS.value, "events": int(number)} if number >= 0:
             return Row(Verdict.PASS, int(number))

@@ -17,7 +17,7 @@ _ENDS = "nothing more"
 _SETTINGS = "settings"
 
 
-def render_find_settings_and_recordings(
+def render_find_with_recordings_and_failure(
     find: Find, what: str, settings: Sequence[Settings], other: str | None, row: Row | None, explanation: Sequence[str]
 ) -> StyledText:
     """A find: its recording beside the other sender's, if there is one, each with its settings, and why it fails.

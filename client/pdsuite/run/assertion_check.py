@@ -50,6 +50,8 @@ class AssertionCheck:
         from pdsuite.imports.assertion_checks import check_assertions
 
         script = text.octets.decode("utf-8", "surrogateescape")
-        recording = self._recorder.record_script_or_note_reason(outcome.path, text.octets, outcome.settings).text
+        recording = self._recorder.record_script_or_return_and_note_reason(
+            outcome.path, text.octets, outcome.settings
+        ).text
         mss = {**DEFAULTS, **dict(outcome.settings)}["mss"]
         return check_assertions(script, recording, outcome.row.line, mss if isinstance(mss, int) else 0)

@@ -33,7 +33,7 @@ _WHOLE = Selection()
 INPUT = Path("-")
 
 
-def find_selected_scripts_and_read_configs(
+def find_selected_script_files_and_read_configs(
     paths: Sequence[Path], only: Sequence[str], suite: SuiteConfig, stop: Stop, part: Selection = _WHOLE
 ) -> list[ScriptFile]:
     """The scripts that are meant, in the order of their paths; all files with their settings are read."""
@@ -41,7 +41,7 @@ def find_selected_scripts_and_read_configs(
     if not finding.scripts:
         raise Fault("no script found")
     suite.read_own_config_files_of_folders(finding.folders)
-    return _filter_by_shard_and_paths(finding.scripts, part)
+    return _filter_by_shard_and_absolute_paths(finding.scripts, part)
 
 
 def read_standard_input_script_if_named(
@@ -74,7 +74,7 @@ def suite_scripts_with_config(
     return [_make_suite_script_keeping_file_fault(index, it, suite, is_strict) for index, it in enumerate(found)]
 
 
-def _filter_by_shard_and_paths(found: list[ScriptFile], part: Selection) -> list[ScriptFile]:
+def _filter_by_shard_and_absolute_paths(found: list[ScriptFile], part: Selection) -> list[ScriptFile]:
     """The scripts of a part. A shard is one of all scripts, so that what failed on its machine is found there again."""
     if part.shard is not None:
         found = scripts_of_shard(found, part.shard)

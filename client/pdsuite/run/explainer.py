@@ -6,7 +6,7 @@ from pdsuite.programs.cause_text import explanation_lines_below_first, make_prin
 from pdsuite.programs.protocol import Cause
 from pdsuite.programs.verdict import Verdict
 from pdsuite.run.outcomes import ScriptOutcome, end_warning_of_passing_row
-from pdsuite.run.script_style import drop_insert_windows_if_script_has_none
+from pdsuite.run.script_style import restyle_suggested_insertions_like_script
 from pdsuite.scripts.text import ScriptText
 
 # These have it explain why scripts don't pass, do so as JSON, and say what those that pass leave at their ends.
@@ -19,7 +19,9 @@ EXPLAIN_OPTIONS = (EXPLAIN, LEFTOVERS, JSON)
 EXPLAIN_FAILURES = (EXPLAIN, JSON)
 
 
-def outcome_explained_by_cause(outcome: ScriptOutcome, cause: Cause | None, text: ScriptText) -> ScriptOutcome:
+def outcome_with_failure_reason_or_end_warning(
+    outcome: ScriptOutcome, cause: Cause | None, text: ScriptText
+) -> ScriptOutcome:
     """The outcome of a text with its explanation: why it doesn't pass, or what is to be warned of at its end.
 
     Of a text that is no script it says where that breaks off.
@@ -29,6 +31,6 @@ def outcome_explained_by_cause(outcome: ScriptOutcome, cause: Cause | None, text
         return outcome
     if row.line is None:
         return replace(outcome, at_end=end_warning_of_passing_row(row, cause))
-    lines = drop_insert_windows_if_script_has_none(explanation_lines_below_first(cause), text.octets)
+    lines = restyle_suggested_insertions_like_script(explanation_lines_below_first(cause), text.octets)
     explanation = cause if row.verdict is Verdict.SYNTAX else None
     return replace(outcome, why=make_printable(str(cause.get("what", ""))), block_lines=lines, explanation=explanation)

@@ -6,7 +6,7 @@ from dataclasses import replace
 from pdsuite.programs.recorder import Recording
 from pdsuite.programs.verdict import Verdict
 from pdsuite.run.batches import SuiteScript
-from pdsuite.run.line_diff import line_diff_or_recording_fault
+from pdsuite.run.line_diff import line_diff_from_recording_or_its_fault
 from pdsuite.run.outcomes import ScriptOutcome
 from pdsuite.run.run_batches import SettledPiece, Step
 from pdsuite.scripts.text import ScriptText
@@ -33,7 +33,7 @@ def _record_and_add_line_diff_if_failing(
     if outcome.row.verdict is not Verdict.FAIL or outcome.is_known_failure or text is None:
         return outcome
     written = text.octets.decode("utf-8", "surrogateescape")
-    found = line_diff_or_recording_fault(
+    found = line_diff_from_recording_or_its_fault(
         outcome.row, outcome.block_lines, written, record(script, text), outcome.settings
     )
     return replace(outcome, line_diff=found)

@@ -31,10 +31,10 @@ def _add_acting_dropped_feature_if_failing(outcome: ScriptOutcome, text: ScriptT
     # Only who has imported scripts pays for what reads them.
     from pdsuite.imports.dropped_features import dropped_feature_explaining_failure
     from pdsuite.packetdrill.layout import layout_of
-    from pdsuite.run.line_diff import count_passed_events, event_texts_by_key_in_block_lines
+    from pdsuite.run.line_diff import count_passed_events, failing_event_text_by_explanation_key
 
     layout = layout_of(text.octets.decode("utf-8", "surrogateescape"))
-    place = count_passed_events(layout, outcome.row, event_texts_by_key_in_block_lines(outcome.block_lines))
+    place = count_passed_events(layout, outcome.row, failing_event_text_by_explanation_key(outcome.block_lines))
     is_early = any(it.startswith(_EARLY) for it in outcome.block_lines)
     found = (
         dropped_feature_explaining_failure(layout.packets_and_calls, place, outcome.row.word, is_early)

@@ -46,7 +46,7 @@ class LineDiff:
     fault: str = ""
 
 
-def line_diff_or_recording_fault(
+def line_diff_from_recording_or_its_fault(
     row: Row, block_lines: Sequence[str], text: str, recording: Recording, settings: Settings
 ) -> LineDiff:
     """The line diff of a script that fails, by a recording with its trace, or why there is no recording."""
@@ -65,7 +65,7 @@ def diff_script_events_with_recording(
         match_events(
             layout.packets_and_calls,
             recorded,
-            count_passed_events(layout, row, event_texts_by_key_in_block_lines(block_lines)),
+            count_passed_events(layout, row, failing_event_text_by_explanation_key(block_lines)),
             allowed,
         )
     )
@@ -86,7 +86,7 @@ def count_passed_events(layout: Layout, row: Row, cause: Mapping[str, object] | 
     return sum(it.item.line < (row.line or 0) for it in layout.packets_and_calls)
 
 
-def event_texts_by_key_in_block_lines(block_lines: Sequence[str]) -> dict[str, object]:
+def failing_event_text_by_explanation_key(block_lines: Sequence[str]) -> dict[str, object]:
     """The event that lines below a row have."""
     return {
         key: line.removeprefix(begin)
@@ -125,7 +125,7 @@ def _diff_line_of_matched_event(met: MatchedEvent, recording: str, allowed: int)
         return _diff_line_of_call_result(event, one, recording)
     is_late = not met.first - allowed <= one.moment <= met.last + allowed
     script, actual = map(
-        _mark_failing_fields_as_differing,
+        _replace_fails_marks_by_differs,
         marked_field_columns_of_both_packets(
             written, _packet_text_with_moment_comment(one, recording), _TIME if is_late else ""
         ),
@@ -135,7 +135,7 @@ def _diff_line_of_matched_event(met: MatchedEvent, recording: str, allowed: int)
     return DiffLine(event.item.line, (PacketField(written),))
 
 
-def _mark_failing_fields_as_differing(packet: PacketColumns) -> PacketColumns:
+def _replace_fails_marks_by_differs(packet: PacketColumns) -> PacketColumns:
     """A packet whose marks say no more than that a field differs."""
     return tuple(replace(it, mark=Mark.DIFFERS) if it.mark is Mark.FAILS else it for it in packet)
 

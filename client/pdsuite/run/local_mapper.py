@@ -44,7 +44,7 @@ def local_mapper(
         begun: deque[_RunningBatch] = deque()
         with ExitStack() as held:
             while True:
-                while _can_begin_batch(begun, most) and (batch := next(left, None)) is not None:
+                while _has_room_by_begun_and_running_counts(begun, most) and (batch := next(left, None)) is not None:
                     steps = held.enter_context(
                         closing(run_batch_yielding_waits_and_restarts(batch, start, load_text, plain_start))
                     )
@@ -88,7 +88,7 @@ class _RunningBatch:
         self.is_over = True
 
 
-def _can_begin_batch(begun: Collection[_RunningBatch], most: int) -> bool:
+def _has_room_by_begun_and_running_counts(begun: Collection[_RunningBatch], most: int) -> bool:
     """Whether a further batch may begin beside these."""
     return len(begun) < _AHEAD * most and sum(not it.is_over for it in begun) < most
 

@@ -72,12 +72,12 @@ def _syntax_error_extent(line: int, cause: Cause | None, layout: Layout, lines: 
         return lines.line_extent_after_indent(line)
     if isinstance(number, int):
         line = number - 1
-    start = lines.line_start(line) + character_index_at_shown_column(lines.line_content(line), column)
+    start = lines.line_start(line) + character_index_at_escaped_line_column(lines.line_content(line), column)
     found = _TOKEN.match(layout.text, start)
     return Extent(start, start + 1 if found is None else found.end())
 
 
-def character_index_at_shown_column(content: str, column: int) -> int:
+def character_index_at_escaped_line_column(content: str, column: int) -> int:
     """The character of a line that stands at a column of it as the program shows it, where a hidden octet takes 4."""
     shown = 0
     for place, character in enumerate(content):

@@ -3,22 +3,28 @@
 from collections import deque
 from contextlib import closing
 from collections.abc import Callable, Generator, Iterable, Iterator, Mapping, Sequence
-from dataclasses import dataclass, field
+from dataclasses import dataclass, field, replace
 from pathlib import Path
 
 from pdsuite.output.octets import printable_path
 from pdsuite.programs.program import Program, ProgramEndedError
-from pdsuite.programs.protocol import LONGEST_CAUSE, LONGEST_LINE, SETTLE, Cause, UnexpectedAnswerError
 from pdsuite.programs.protocol import (
+    LONGEST_CAUSE,
+    LONGEST_LINE,
+    SETTLE,
+    Cause,
+    RulesByLine,
+    UnexpectedAnswerError,
     add_command,
     parse_causes_by_script_and_line,
     parse_new_rows,
+    parse_rules_by_script,
     rows_before_total,
     script_name_of_number,
 )
 from pdsuite.programs.verdict import Row, Verdict
 from pdsuite.run.batches import Batch, Piece, SuiteScript, make_outcome_with_row_line
-from pdsuite.run.explainer import outcome_explained_by_cause
+from pdsuite.run.explainer import outcome_with_failure_reason_or_end_warning
 from pdsuite.run.outcomes import ScriptOutcome
 from pdsuite.scripts.settings import Settings, settings_as_toml
 from pdsuite.scripts.text import ScriptText, UnfitTextError, make_newline_ended_text_within_limits, read_text
@@ -31,11 +37,15 @@ LoadText = Callable[[SuiteScript], ScriptText | str]
 
 @dataclass(frozen=True)
 class SettledPiece:
-    """A piece that has been settled; by the places of its scripts, the texts that were run and explanations by keys."""
+    """A piece that has been settled; by the places of its scripts, the texts that were run and explanations by keys.
+
+    Where the program lists the rules that events come to, it has these, too.
+    """
 
     outcomes: list[tuple[SuiteScript, ScriptOutcome]]
     texts: dict[int, ScriptText] = field(default_factory=dict)
     causes: Mapping[int, Cause] = field(default_factory=dict)
+    rules: Mapping[int, RulesByLine] = field(default_factory=dict)
 
 
 @dataclass(frozen=True)
@@ -104,7 +114,7 @@ def run_batch(
 def _wait_for_programs_and_yield_steps(steps: Iterable[Step | Program]) -> Iterator[Step]:
     for step in steps:
         if isinstance(step, Program):
-            step.wait_until_ready()
+            step.wait_until_pipes_ready_or_signal()
         else:
             yield step
 
@@ -168,23 +178,24 @@ def _run_and_pop_pieces_in_program(
         texts = {script.index: it for script, it in loaded if isinstance(it, ScriptText)}
         rows: list[Row] = []
         causes: dict[int, Cause] = {}
+        rules: dict[int, RulesByLine] = {}
         if texts:
             names = [script_name_of_number(count + number) for number in range(len(texts))]
+            places = dict(zip(names, texts))
             count += len(texts)
             commands = b"".join(map(add_command, names, texts.values())) + SETTLE
             longest = LONGEST_LINE * (count + 2)
             answer, errors = yield from program.query_with_errors_as_generator(
                 commands, longest, LONGEST_CAUSE * (len(texts) + 1)
             )
-            rows, causes = _rows_and_causes_or_raise_program_ended(
-                answer, errors, before, dict(zip(names, texts)), count
-            )
+            rows, causes = _parse_answer_or_raise_program_ended(answer, errors, before, places, count)
+            rules = {places[name]: it for name, it in parse_rules_by_script(errors).items() if name in places}
             before = rows_before_total(answer)
         left.popleft()
-        yield make_settled_piece_of_scripts(loaded, rows, causes)
+        yield replace(make_settled_piece_of_scripts(loaded, rows, causes), rules=rules)
 
 
-def _rows_and_causes_or_raise_program_ended(
+def _parse_answer_or_raise_program_ended(
     answer: bytes, errors: bytes, before: bytes, places: Mapping[bytes, int], count: int
 ) -> tuple[list[Row], dict[int, Cause]]:
     try:
@@ -225,7 +236,9 @@ def _explained_outcome(
     script: SuiteScript, text: ScriptText, row: Row, cause: Cause | None
 ) -> tuple[SuiteScript, ScriptOutcome]:
     line = None if row.line is None else text.find_line_by_number(row.line)
-    return script, outcome_explained_by_cause(make_outcome_with_row_line(script, row, line), cause, text)
+    return script, outcome_with_failure_reason_or_end_warning(
+        make_outcome_with_row_line(script, row, line), cause, text
+    )
 
 
 def error_piece(piece: Piece, reason: str) -> SettledPiece:

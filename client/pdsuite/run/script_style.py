@@ -11,7 +11,7 @@ _COMMENT = re.compile(rb"//[^\n]*|/\*.*?\*/", re.DOTALL)
 _WITH_WINDOW = re.compile(rb">\s*[A-Z.-]+\s*\d+:\d+\s*\(\s*\d+\s*\)\s*(?:ack\s*\d+\s*)?win\s*\d")
 
 
-def drop_insert_windows_if_script_has_none(lines: tuple[str, ...], text: bytes) -> tuple[str, ...]:
+def restyle_suggested_insertions_like_script(lines: tuple[str, ...], text: bytes) -> tuple[str, ...]:
     """The lines about a script, with each packet to be put into it as the script writes those that leave."""
     if not any(it.startswith(_MEND) for it in lines):
         return lines

@@ -47,7 +47,7 @@ def pack_batch_with_current_texts(batch: Batch) -> PackedBatch:
 def why_wanted_program_unusable_or_empty(wanted: WantedProgram) -> str:
     """Why this machine can't be used, by its program; empty if it can."""
     try:
-        _require_program_of_wanted_sha256(*wanted)
+        _find_program_of_wanted_sha256_or_fault(*wanted)
     except Fault as fault:
         return str(fault)
     return ""
@@ -56,10 +56,10 @@ def why_wanted_program_unusable_or_empty(wanted: WantedProgram) -> str:
 def run_packed_batch_or_program_fault(packed_batch: PackedBatch, wanted: WantedProgram) -> PlainAnswer:
     """Settles a batch on the machine where this is called, if its program is that one."""
     try:
-        program = _require_program_of_wanted_sha256(*wanted)
+        program = _find_program_of_wanted_sha256_or_fault(*wanted)
     except Fault as fault:
         return str(fault)
-    batch, texts = _unpack_batch(packed_batch)
+    batch, texts = _unpack_batch_and_texts_or_faults(packed_batch)
     answer: list[str | list[PlainRow]] = []
     with Stop(signals=()) as stop:
         start, plain_start = starter_with_options(program, EXPLAIN_OPTIONS, 1, stop), starter_without_explanations(
@@ -92,7 +92,7 @@ def _script_octets_or_load_fault(script: SuiteScript) -> bytes | str:
     return text.octets if isinstance(text, ScriptText) else text
 
 
-def _unpack_batch(packed_batch: PackedBatch) -> tuple[Batch, dict[int, ScriptText | str]]:
+def _unpack_batch_and_texts_or_faults(packed_batch: PackedBatch) -> tuple[Batch, dict[int, ScriptText | str]]:
     settings, plain = packed_batch
     pieces: list[Piece] = []
     texts: dict[int, ScriptText | str] = {}
@@ -114,7 +114,7 @@ def _step_as_plain_rows_or_message(step: Step) -> str | list[PlainRow]:
     return [(row.verdict.value, row.number, row.word, step.causes.get(index)) for index, row in rows]
 
 
-def _require_program_of_wanted_sha256(path: str, wanted: str) -> Path:
+def _find_program_of_wanted_sha256_or_fault(path: str, wanted: str) -> Path:
     """The program of this machine, where it is the one that is wanted."""
     folder = os.environ.get(PROGRAMS_VARIABLE)
     places = [Path(folder, REGRESS)] if folder else [Path(path), _INSTALLED / REGRESS]

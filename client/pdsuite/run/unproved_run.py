@@ -10,8 +10,11 @@ from pdsuite.programs.locate import RECORD, REGRESS
 from pdsuite.programs.program import ProgramEndedError
 from pdsuite.programs.protocol import (
     Cause,
+    RulesByLine,
     UnexpectedAnswerError,
+    LIST_RULES,
     add_command,
+    parse_rules_by_script,
     script_name_of_number,
     set_and_show_commands,
     set_command,
@@ -29,7 +32,7 @@ from pdsuite.run.run_batches import (
     parse_rows_and_causes_of_same_line,
 )
 from pdsuite.scripts.config import Claim
-from pdsuite.scripts.settings import Settings, set_command_words
+from pdsuite.scripts.settings import Settings, set_command_words_or_placeholders
 from pdsuite.scripts.text import ScriptText
 from pdsuite.signals import Stop
 
@@ -58,7 +61,7 @@ class StartBatch:
 
     def input_commands(self) -> bytes:
         """The commands that set the settings and add the scripts."""
-        sets = [set_command(*set_command_words(key, value)) for key, value in self.settings]
+        sets = [set_command(*set_command_words_or_placeholders(key, value)) for key, value in self.settings]
         return b"".join(
             sets + [add_command(name, text) for name, (_, text) in zip(self.numbered_script_names(), self.scripts)]
         )
@@ -66,11 +69,15 @@ class StartBatch:
 
 @dataclass(frozen=True)
 class UnprovedResults:
-    """The results of a suite: the settings that are refused, or else settled scripts and recordings."""
+    """The results of a suite: the settings that are refused, or else settled scripts and recordings.
+
+    With `lists_rules` the scripts have the rules that they come to.
+    """
 
     refused: list[Refusal] = field(default_factory=list)
     settled: list[SettledPiece] = field(default_factory=list)
     recordings: Mapping[int, Recording] = field(default_factory=dict)
+    lists_rules: bool = False
 
     def settled_steps(self, batches: Iterable[Batch]) -> Generator[Step, None, None]:
         """The pieces of the batches, in their order."""
@@ -90,20 +97,25 @@ class UnprovedPlan:
     records: bool = False
 
     @property
-    def all_start_batches(self) -> list[StartBatch]:
+    def lists_rules(self) -> bool:
+        """Whether the program lists the rules that scripts come to."""
+        return LIST_RULES in self.explain_options
+
+    @property
+    def start_batches_of_runnable_scripts(self) -> list[StartBatch]:
         return [it for piece in self.pieces for it in runnable_scripts_in_output_sized_batches(piece)]
 
     @property
     def scripts_to_record(self) -> list[tuple[SuiteScript, ScriptText]]:
         """The scripts that are recorded."""
-        return [one for it in self.all_start_batches for one in it.scripts] if self.records else []
+        return [one for it in self.start_batches_of_runnable_scripts for one in it.scripts] if self.records else []
 
     def cases_for_claims_batches_and_recordings(self, tree: Path) -> list[ProgramCases]:
         """The starts of a tree's programs: one queries the claims, the others run the batches and record."""
         settings_case = Case(
             (), b"".join(set_and_show_commands(*it) for it in distinct_key_value_pairs(self.claims)), is_alone=True
         )
-        cases = cases_of_batches(self.all_start_batches)
+        cases = cases_of_batches(self.start_batches_of_runnable_scripts)
         return [
             self.program_cases_with_explanations(tree, [settings_case, *cases]),
             recording_cases(tree, map(_settings_and_octets, self.scripts_to_record)),
@@ -140,7 +152,8 @@ def results_after_rerunning_unanswered(
         return UnprovedResults(refused)
     results = _BatchResults(plan, explained, recorded)
     results.rerun_unanswered_alone(tree, stop, note)
-    return UnprovedResults([], [results.settled_piece_from_rows(piece) for piece in plan.pieces], results.recordings)
+    settled = [results.settled_piece_from_rows(piece) for piece in plan.pieces]
+    return UnprovedResults([], settled, results.recordings, plan.lists_rules)
 
 
 class _BatchResults:
@@ -150,7 +163,8 @@ class _BatchResults:
         self, plan: UnprovedPlan, explained: Sequence[ProgramAnswer], recorded: Sequence[ProgramAnswer]
     ) -> None:
         self._plan = plan
-        self._rows, self._unanswered = rows_and_unanswered_batches(plan.all_start_batches, explained)
+        self._rows, self._unanswered = rows_and_unanswered_batches(plan.start_batches_of_runnable_scripts, explained)
+        self._rules = rules_of_batches(plan.start_batches_of_runnable_scripts, explained)
         self.recordings = {
             script.index: recording_from_answer(answer) for (script, _), answer in zip(plan.scripts_to_record, recorded)
         }
@@ -174,6 +188,7 @@ class _BatchResults:
         ]
         explained, recorded = build_and_run_cases(builds, stop)
         again, lost = rows_and_unanswered_batches(singles, explained)
+        self._rules |= rules_of_batches(singles, explained)
         self._rows |= again | {it.scripts[0][0].index: (Row(Verdict.ERROR, word=why), None) for it, why in lost}
         self.recordings |= {
             script.index: recording_from_answer(answer) for (script, _), answer in zip(scripts, recorded)
@@ -183,7 +198,8 @@ class _BatchResults:
         """A piece with the outcomes and explanations of its scripts."""
         rows = {script.index: self._rows[script.index] for script, text in piece if isinstance(text, ScriptText)}
         causes = {index: cause for index, (_, cause) in rows.items() if cause is not None}
-        return make_settled_piece_of_scripts(piece, [row for row, _ in rows.values()], causes)
+        rules = {index: self._rules[index] for index in rows if index in self._rules}
+        return replace(make_settled_piece_of_scripts(piece, [row for row, _ in rows.values()], causes), rules=rules)
 
 
 def _settings_and_octets(each: tuple[SuiteScript, ScriptText]) -> tuple[Settings, bytes]:
@@ -227,6 +243,16 @@ def rows_and_unanswered_batches(
         except UnexpectedAnswerError as unexpected:
             unanswered.append((batch, f"{REGRESS}: {unexpected}"))
     return explained, unanswered
+
+
+def rules_of_batches(batches: Iterable[StartBatch], answers: Iterable[ProgramAnswer]) -> dict[int, RulesByLine]:
+    """The rules that the scripts of batches come to, by their places, where the program lists them."""
+    found: dict[int, RulesByLine] = {}
+    for batch, answer in zip(batches, answers):
+        rules = parse_rules_by_script(answer.errors)
+        names = zip(batch.numbered_script_names(), batch.scripts)
+        found |= {script.index: rules[name] for name, (script, _) in names if name in rules}
+    return found
 
 
 def parse_explained_rows_of_batch(batch: StartBatch, answer: ProgramAnswer) -> ExplainedRows:

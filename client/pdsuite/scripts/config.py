@@ -102,7 +102,7 @@ class SuiteConfig:
         own = beside.tables.get(script.name)
         if own is None:
             return common
-        settings = self._merge_settings(script.folder, own) if own else common.settings
+        settings = self._merge_layers_script_table_and_option(script.folder, own) if own else common.settings
         is_strict = beside.strict.get(script.name, common.is_strict)
         return ScriptRules(settings, is_strict, beside.expected.get(script.name))
 
@@ -144,13 +144,13 @@ class SuiteConfig:
             (it.strict[""] for it in self._layers_from_folder_up_to_root(folder) if "" in it.strict), False
         )
         known = (
-            ScriptRules(self._merge_settings(folder, {}), is_strict, None),
+            ScriptRules(self._merge_layers_script_table_and_option(folder, {}), is_strict, None),
             self._cached_or_read_layer_of_folder(folder) or _EMPTY,
         )
         self._known[folder] = known
         return known
 
-    def _merge_settings(self, folder: str, own: Table) -> Settings:
+    def _merge_layers_script_table_and_option(self, folder: str, own: Table) -> Settings:
         merged: dict[str, Value] = {}
         for layer in reversed(self._layers_from_folder_up_to_root(folder)):
             merged.update(layer.keys)
@@ -263,7 +263,7 @@ def _parse_toml(place: str, octets: bytes) -> dict[str, Value]:
     try:
         return tomllib.loads(octets.decode())
     except (ValueError, RecursionError) as error:
-        words = f"no TOML: {_toml_error_reason_with_position(error, octets)}"
+        words = f"no TOML: {_toml_error_reason_for_people(error, octets)}"
         if place in _OPTIONS:
             raise Fault(f"{place}: {words}") from error
         raise PlacedFault(f"{place}:{_line_of_toml_error(error, octets)}: {words}") from error
@@ -279,7 +279,7 @@ def _line_of_toml_error(error: ValueError | RecursionError, octets: bytes) -> in
     return 1 if found is None else int(found[1])
 
 
-def _toml_error_reason_with_position(error: ValueError | RecursionError, octets: bytes) -> str:
+def _toml_error_reason_for_people(error: ValueError | RecursionError, octets: bytes) -> str:
     """Why octets are no TOML, in the words of Python where it has any for people."""
     if isinstance(error, UnicodeDecodeError):
         return f"octet 0x{octets[error.start]:02x} is no UTF-8"

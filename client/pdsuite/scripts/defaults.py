@@ -60,13 +60,13 @@ KEYS: dict[str, Number | Word] = {
 DEFAULTS: dict[str, Value] = {key: it.default for key, it in KEYS.items()}
 
 
-def has_default_for_each_dropped_setting(old: Settings, new: Settings) -> bool:
+def has_default_for_each_old_key_not_in_new(old: Settings, new: Settings) -> bool:
     """Whether a run with the old settings can be given the new ones: of each key that goes the default is known."""
     after = dict(new)
     return all(key in after or key in DEFAULTS for key, _ in old)
 
 
-def settings_changed_between(old: Settings, new: Settings) -> Iterator[tuple[str, Value]]:
+def changed_settings_with_new_values(old: Settings, new: Settings) -> Iterator[tuple[str, Value]]:
     """The keys whose value changes, each with its new one: the default for a key that goes."""
     before, after = {**DEFAULTS, **dict(old)}, {**DEFAULTS, **dict(new)}
     for key in sorted(after):

@@ -21,12 +21,12 @@ def sorted_settings(table: Mapping[str, Value]) -> Settings:
     return tuple(sorted(table.items()))
 
 
-def set_command_words(key: str, value: Value) -> tuple[str, str]:
+def set_command_words_or_placeholders(key: str, value: Value) -> tuple[str, str]:
     """Key and value as words of a `set` command.
 
     Where no word can hold them, a word stands for them that the program refuses too.
     """
-    return (key if _KEY.fullmatch(key) else _NONE, _value_as_set_command_word(value))
+    return (key if _KEY.fullmatch(key) else _NONE, _set_command_value_word_or_placeholder(value))
 
 
 def settings_as_toml(settings: Settings) -> str:
@@ -43,7 +43,7 @@ def value_as_toml(value: Value) -> str:
     return str(value)
 
 
-def _value_as_set_command_word(value: Value) -> str:
+def _set_command_value_word_or_placeholder(value: Value) -> str:
     if isinstance(value, bool):
         return "true" if value else "false"
     if isinstance(value, int):

@@ -33,11 +33,13 @@ def unused_table_names(layer: Layer, folder: str) -> list[str]:
 def unused_table_warning_lines_under_paths(suite: SuiteConfig, paths: Iterable[Path]) -> list[str]:
     """The lines of the files that lie in folders which paths name."""
     return [
-        line for folder, layer in layers_under_paths(suite, paths) for line in unused_table_warning_lines(layer, folder)
+        line
+        for folder, layer in already_read_layers_under_paths(suite, paths)
+        for line in unused_table_warning_lines(layer, folder)
     ]
 
 
-def layers_under_paths(suite: SuiteConfig, paths: Iterable[Path]) -> Iterator[tuple[str, Layer]]:
+def already_read_layers_under_paths(suite: SuiteConfig, paths: Iterable[Path]) -> Iterator[tuple[str, Layer]]:
     """The files that were read and lie in folders which paths name, by their folders.
 
     Files above these folders are left out, since their tables are about scripts that aren't meant.

@@ -1,4 +1,4 @@
-"""Searching: a model of a peer and a network makes inputs under which two senders differ, or a state is reached.
+"""Searching: a model of a peer and a network makes inputs under which two senders differ, or a goal is reached.
 
 A `Scenario` says what a connection meets; a simulation (`simulate`) plays it against recordings of the sender, and
 gives `Inputs`: calls and packets, each at its moment. `CandidateLists` makes the lists that are tried, from new
@@ -14,8 +14,9 @@ scenarios (`generate`) and variations of inputs that reached something new (`mut
 - All is drawn from the seed: the same seed and the same recordings give the same lists, on any machine.
 - Senders are queried by an oracle alone, either programs (`ProgramOracle`) or a tree's sources (`UnprovedOracle`), so
   no other module here knows how a sender is run.
-- A find is what a program says it is: a script that passes before and fails after, or a recording that reaches the
-  state.
+- A find is what a program says it is: a script that passes before and fails after, or one of which an event reaches
+  the `SearchGoal`: its recording has the state, and `pdregress --rules` lists the rules. Programs that list rules stay
+  up (`rule_listers`), since many candidates have equal settings.
 - The states that inputs reach are counted by kinds (`states`), in which numbers count by order and rough size;
   otherwise each input would be new.
 

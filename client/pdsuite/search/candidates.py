@@ -3,7 +3,7 @@
 from collections.abc import Iterable, Iterator, Sequence
 from dataclasses import dataclass, field
 
-from pdsuite.search.generate import generate_scenarios
+from pdsuite.search.generate import numbered_scenario_list_of_seed_and_size
 from pdsuite.search.mutate import CorpusEntry, InputMutator
 from pdsuite.search.scenario import Emphasis, Scenario
 from pdsuite.search.simulate import (
@@ -41,7 +41,7 @@ class CandidateLists:
         self._waiting = list(self.initial_inputs)
         self._mutator = InputMutator(self.seed, self.emphasis)
 
-    def input_lists(self) -> Iterator[list[InputSteps]]:
+    def input_list_for_each_size(self) -> Iterator[list[InputSteps]]:
         """The lists, each made when all of the one before was learnt from."""
         for number, size in enumerate(self.sizes):
             yield list(self._take_waiting_fresh_and_varied_inputs(number, size))
@@ -49,15 +49,15 @@ class CandidateLists:
     def _take_waiting_fresh_and_varied_inputs(self, number: int, size: int) -> Iterator[InputSteps]:
         first, self._waiting = self._waiting[: 2 * size], self._waiting[2 * size :]
         yield from (play_inputs_dropping_refused(it.inputs) for it in first)
-        scenarios = generate_scenarios(self.seed, number, size, self.emphasis)
+        scenarios = numbered_scenario_list_of_seed_and_size(self.seed, number, size, self.emphasis)
         varied = size // 2 if self._kept else 0
         yield from (play_scenario(it) for it in scenarios[varied:])
         yield from (self._vary_kept_inputs(it) for it in scenarios[:varied])
 
-    def more_scenarios(self, count: int) -> list[Scenario]:
+    def generate_further_scenarios(self, count: int) -> list[Scenario]:
         """So many further scenarios."""
         self._further += 1
-        return generate_scenarios(self.seed, _FURTHER + self._further, count, self.emphasis)
+        return numbered_scenario_list_of_seed_and_size(self.seed, _FURTHER + self._further, count, self.emphasis)
 
     def keep_inputs_with_new_steps(self, played: Iterable[PlayedInputs]) -> None:
         """Keeps what reached a state of the sender, by a step, that none before reached."""

@@ -6,11 +6,11 @@ from dataclasses import replace
 from pdsuite.compare.divergence import parse_played_events
 from pdsuite.packetdrill.items import SECOND
 from pdsuite.search.find import Find
-from pdsuite.search.inputs import Input, Inputs, make_call, make_dataless_inbound_packet
+from pdsuite.search.inputs import Input, Inputs, make_dataless_inbound_packet, make_unrecorded_call
 from pdsuite.search.simulate import LONGEST_GAP, LONG_GAPS, TICK
 
-_WRITE = make_call("write", 4, "...", 20_000)
-_CLOSE = make_call("close", 4)
+_WRITE = make_unrecorded_call("write", 4, "...", 20_000)
+_CLOSE = make_unrecorded_call("close", 4)
 
 
 def continued_inputs_of_find(find: Find) -> Iterator[Inputs]:

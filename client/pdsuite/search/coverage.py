@@ -1,4 +1,4 @@
-"""The coverage of recordings: how many have data in flight, a recovery, an expiry, each way of closing."""
+"""The coverage of recordings: how many have data in flight, a recovery, an expiry, a reset, and each way of closing."""
 
 import re
 from collections import Counter
@@ -40,7 +40,7 @@ class Coverage:
         """Counts what one input reaches."""
         self.inputs += 1
         events = list(parse_played_events(recording))
-        self.counts.update(set(_reached_flight_recovery_expiry_closing(events)))
+        self.counts.update(set(_reached_flight_recovery_expiry_closing_reset(events)))
         self.states.update({_state_name_of(it) for it in events})
         self.options.update(set(options))
         self.settings.update(set(settings))
@@ -51,7 +51,7 @@ class Coverage:
         return {name: self.counts[name] / max(self.inputs, 1) for name in SHARES}
 
 
-def _reached_flight_recovery_expiry_closing(events: Iterable[PlayedEvent]) -> Iterator[str]:
+def _reached_flight_recovery_expiry_closing_reset(events: Iterable[PlayedEvent]) -> Iterator[str]:
     expiry = ""
     for it in events:
         name = _state_name_of(it)
@@ -82,9 +82,10 @@ class StatePattern:
 
     def is_reached_in(self, recording: str) -> bool:
         """Whether a state of a recording has all of them."""
-        return any(self._fits_state(it.state) for it in parse_played_events(recording))
+        return any(self.fits_state(it.state) for it in parse_played_events(recording))
 
-    def _fits_state(self, state: str) -> bool:
+    def fits_state(self, state: str) -> bool:
+        """Whether a state has all of them."""
         name, *facts = state.split(" ")
         there = {_STATE: name} | dict(it.split(":", 1) for it in facts)
         return all(key in there and fnmatchcase(there[key], value) for key, value in self.facts)

@@ -39,7 +39,7 @@ def script_without_trace(recording: str) -> bytes:
     return "\n".join(lines).encode("utf-8", "surrogateescape")
 
 
-def configured_script_of(find: Find) -> ConfiguredScript:
+def configured_script_of_find(find: Find) -> ConfiguredScript:
     """The script that a find is saved as."""
     return ConfiguredScript(find.inputs.settings, script_without_trace(find.recording))
 
@@ -54,7 +54,7 @@ class FailsTest:
         self, inputs: Sequence[Inputs], recordings: Sequence[Recording]
     ) -> list[Find | None]:
         made = [Find(it, recording.text) if recording.text else None for it, recording in zip(inputs, recordings)]
-        rows = iter(self.other.run_scripts_for_rows([configured_script_of(it) for it in made if it is not None]))
+        rows = iter(self.other.run_scripts_for_rows([configured_script_of_find(it) for it in made if it is not None]))
         finds = [None if it is None else Find(it.inputs, it.recording, next(rows)) for it in made]
         return [
             it if it is not None and it.row is not None and it.row.verdict is not Verdict.PASS else None for it in finds

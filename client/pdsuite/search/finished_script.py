@@ -6,7 +6,7 @@ from dataclasses import dataclass, replace
 from pdsuite.compare.divergence import PlayedEvent, parse_played_events
 from pdsuite.packetdrill.items import Time
 from pdsuite.programs.verdict import Row, Verdict
-from pdsuite.search.find import Find, configured_script_of
+from pdsuite.search.find import Find, configured_script_of_find
 from pdsuite.search.inputs import EXACT
 from pdsuite.search.oracle import ConfiguredScript, SenderOracle
 from pdsuite.search.simulate import TICK
@@ -28,7 +28,7 @@ class FinishedScript:
 
 def least_script_of_find(find: Find, before: SenderOracle, after: SenderOracle) -> FinishedScript:
     """The least script that shows a find: of what was tried, what passes before and fails after."""
-    best = FinishedScript(configured_script_of(find), find.row)
+    best = FinishedScript(configured_script_of_find(find), find.row)
     if find.row is None or find.row.line is None:
         return best
     played = list(parse_played_events(find.recording))[: find.row.line - find.inputs.header_line_count]
@@ -37,12 +37,14 @@ def least_script_of_find(find: Find, before: SenderOracle, after: SenderOracle) 
         if smaller:
             best = smaller[0]
             break
-    while found := _scripts_passing_before_failing_after(list(_scripts_less_one_wait(best)), before, after):
+    while found := _scripts_passing_before_failing_after(
+        list(_scripts_with_a_wait_joined_to_next_line(best)), before, after
+    ):
         best = found[0]
     return best
 
 
-def prepend_comment_and_rerun_for_row(
+def prepend_comment_stating_row_of_rerun(
     it: FinishedScript, head: Callable[[Row | None], Sequence[str]], after: SenderOracle
 ) -> FinishedScript:
     """The script below lines of comment, which name its row as it is when it is run with them."""
@@ -71,12 +73,12 @@ def _scripts_passing_before_failing_after(
     ]
 
 
-def _is_wait(it: PlayedEvent) -> bool:
+def _is_fcntl_call_that_only_waits(it: PlayedEvent) -> bool:
     return f" {TICK.name}({', '.join(TICK.arguments)}) " in it.line
 
 
 def _without_waits(played: Sequence[PlayedEvent]) -> list[PlayedEvent]:
-    return [it for it in played if not _is_wait(it)]
+    return [it for it in played if not _is_fcntl_call_that_only_waits(it)]
 
 
 def _script_of_events(find: Find, played: Sequence[PlayedEvent]) -> ConfiguredScript:
@@ -94,21 +96,21 @@ def _relative_time_lines(played: Sequence[PlayedEvent]) -> Iterator[str]:
         before = at
 
 
-def _scripts_less_one_wait(best: FinishedScript) -> Iterator[ConfiguredScript]:
+def _scripts_with_a_wait_joined_to_next_line(best: FinishedScript) -> Iterator[ConfiguredScript]:
     """The script without one line that waits, whose time goes to the next."""
     lines = best.script.octets.decode("utf-8", "surrogateescape").splitlines()
     for place, line in enumerate(lines[:-1]):
         time, _, rest = line.partition(" ")
         then, _, next_rest = lines[place + 1].partition(" ")
         if rest.startswith(f"{TICK.name}(") and time.startswith("+") and then.startswith("+"):
-            at = (parse_moment(_time_text_with_decimal_point(time)) or 0) + (
-                parse_moment(_time_text_with_decimal_point(then)) or 0
+            at = (parse_moment(_strip_plus_and_ensure_decimal_point(time)) or 0) + (
+                parse_moment(_strip_plus_and_ensure_decimal_point(then)) or 0
             )
             kept = [*lines[:place], f"{Time(at)} {next_rest}", *lines[place + 2 :]]
             yield replace(best.script, octets="".join(f"{it}\n" for it in kept).encode("utf-8", "surrogateescape"))
 
 
-def _time_text_with_decimal_point(time: str) -> str:
+def _strip_plus_and_ensure_decimal_point(time: str) -> str:
     """A time with decimals."""
     text = time.removeprefix("+")
     return text if "." in text else f"{text}.0"

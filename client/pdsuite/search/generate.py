@@ -6,7 +6,7 @@ from typing import TypeVar
 
 from pdsuite.packetdrill.items import SECOND, TcpOption
 from pdsuite.scripts.settings import Settings, Value, sorted_settings
-from pdsuite.search.inputs import make_call
+from pdsuite.search.inputs import make_unrecorded_call
 from pdsuite.search.scenario import Emphasis, Ending, Handshake, IrregularPacket, Irregularity, Network, PlannedCall
 from pdsuite.search.scenario import ReceiverPlan, Scenario, Theme
 
@@ -62,10 +62,10 @@ def scenario_lists_of_sizes(
 ) -> Iterator[list[Scenario]]:
     """Lists of so many scenarios each, one after the other."""
     for number, size in enumerate(sizes):
-        yield generate_scenarios(seed, number, size, emphasis)
+        yield numbered_scenario_list_of_seed_and_size(seed, number, size, emphasis)
 
 
-def generate_scenarios(seed: int, number: int, size: int, emphasis: Emphasis) -> list[Scenario]:
+def numbered_scenario_list_of_seed_and_size(seed: int, number: int, size: int, emphasis: Emphasis) -> list[Scenario]:
     """So many scenarios, the list of this number by a seed."""
     maker = _Generator(Random(seed * _APART + number), emphasis)
     return [maker.draw_scenario() for _ in range(size)]
@@ -91,7 +91,7 @@ class _Generator:
         idle = self._draw_idle_writes(chosen)
         return Scenario(
             chosen,
-            self._draw_handshake(network.round_trip),
+            self._draw_handshake_begun_by_peer(network.round_trip),
             network,
             self._draw_receiver_plan(),
             self._draw_calls(network.round_trip, chosen, closed),
@@ -117,7 +117,7 @@ class _Generator:
     def _pick(self, values: Sequence[T]) -> T:
         return values[self._draw_below(len(values))]
 
-    def _draw_number_set(self, most: int, below: int) -> frozenset[int]:
+    def _draw_nonempty_number_set_up_to_size(self, most: int, below: int) -> frozenset[int]:
         """Some different numbers, so many at most."""
         return frozenset(self._draw_below(below) for _ in range(self._draw_between(1, most)))
 
@@ -131,7 +131,7 @@ class _Generator:
         keys = {self._pick(self._keys) for _ in range(self._pick((1, 1, 2, 3)))}
         return sorted_settings({key: self._pick(KEYS[key]) for key in sorted(keys)})
 
-    def _draw_handshake(self, round_trip: int) -> Handshake:
+    def _draw_handshake_begun_by_peer(self, round_trip: int) -> Handshake:
         takes = self._pick(_LONG_HANDSHAKES) if self._happens_more_with_theme(Theme.HANDSHAKE, 8) else round_trip
         is_irregular = self._happens_more_with_theme(Theme.HANDSHAKE, 8)
         irregular = (
@@ -161,7 +161,7 @@ class _Generator:
         if self._happens_one_in(3):
             step = max(round_trip // 20, 1)
             late = {self._draw_below(12): self._draw_between(1, 60) * step for _ in range(self._draw_between(1, 3))}
-        lost_acks = self._draw_number_set(3, 10) if self._happens_one_in(4) else frozenset()
+        lost_acks = self._draw_nonempty_number_set_up_to_size(3, 10) if self._happens_one_in(4) else frozenset()
         outage = (0, 0)
         if self._happens_more_with_theme(Theme.EXPIRY, 6):
             begin = self._draw_below(7) * round_trip
@@ -177,7 +177,7 @@ class _Generator:
             return frozenset((first,))
         if kind == 3:
             return frozenset(range(first, first + self._draw_between(2, 4)))
-        return self._draw_number_set(5, 16)
+        return self._draw_nonempty_number_set_up_to_size(5, 16)
 
     def _draw_receiver_plan(self) -> ReceiverPlan:
         windows = {0: self._draw_window()}
@@ -197,18 +197,19 @@ class _Generator:
     def _draw_calls(self, round_trip: int, chosen: Settings, closed: int | None) -> tuple[PlannedCall, ...]:
         sizes = [*_SHORT, *_LONG, *(int(str(value)) - 1 for key, value in chosen if key == "sndbuf")]
         first = self._pick(sizes) if self._happens_more_with_theme(Theme.SMALL, 3) else self._pick(_LONG)
-        acts = [PlannedCall(0, make_call("write", 4, "...", first))]
+        acts = [PlannedCall(0, make_unrecorded_call("write", 4, "...", first))]
         for _ in range(self._draw_below(5)):
             acts.append(
                 PlannedCall(
-                    self._draw_moment_after_handshake(round_trip), make_call("write", 4, "...", self._pick(sizes))
+                    self._draw_moment_after_handshake(round_trip),
+                    make_unrecorded_call("write", 4, "...", self._pick(sizes)),
                 )
             )
         if _RESTART in dict(chosen):
             acts.append(
                 PlannedCall(
                     self._draw_moment_after_handshake(round_trip) + self._pick(_IDLE),
-                    make_call("write", 4, "...", self._pick(_LONG)),
+                    make_unrecorded_call("write", 4, "...", self._pick(_LONG)),
                 )
             )
         if self._happens_one_in(6):
@@ -216,14 +217,14 @@ class _Generator:
             acts.append(
                 PlannedCall(
                     0 if self._happens_one_in(2) else self._draw_moment_after_handshake(round_trip),
-                    make_call("setsockopt", *option),
+                    make_unrecorded_call("setsockopt", *option),
                 )
             )
         if closed is not None:
-            acts.append(PlannedCall(closed, make_call("close", 4)))
+            acts.append(PlannedCall(closed, make_unrecorded_call("close", 4)))
             if self._happens_one_in(8):
-                acts.append(PlannedCall(closed, make_call("write", 4, "...", 100)))
-        return tuple(sorted(acts, key=_delay_after_handshake))
+                acts.append(PlannedCall(closed, make_unrecorded_call("write", 4, "...", 100)))
+        return tuple(sorted(acts, key=_planned_delay_of_call_or_packet))
 
     def _draw_idle_writes(self, chosen: Settings) -> tuple[PlannedCall, ...]:
         """The writes after idle times."""
@@ -231,7 +232,8 @@ class _Generator:
             return ()
         count = self._draw_between(1, 2)
         return tuple(
-            PlannedCall(self._pick(_AROUND), make_call("write", 4, "...", self._pick(_LONG))) for _ in range(count)
+            PlannedCall(self._pick(_AROUND), make_unrecorded_call("write", 4, "...", self._pick(_LONG)))
+            for _ in range(count)
         )
 
     def _draw_irregular_packets(self, round_trip: int, closed: int | None) -> tuple[IrregularPacket, ...]:
@@ -255,12 +257,12 @@ class _Generator:
                         self._draw_moment_after_handshake(round_trip), self._pick(_LATER), self._pick(_NUMBERS)
                     )
                 )
-        return tuple(sorted(irregular, key=_delay_after_handshake))
+        return tuple(sorted(irregular, key=_planned_delay_of_call_or_packet))
 
     def _draw_moment_after_handshake(self, round_trip: int) -> int:
         """A moment after the handshake: some round trips, in quarters and a little more."""
         return self._draw_below(25) * round_trip // 4 + self._pick((0, 1, 1_000))
 
 
-def _delay_after_handshake(it: PlannedCall | IrregularPacket) -> int:
+def _planned_delay_of_call_or_packet(it: PlannedCall | IrregularPacket) -> int:
     return it.after

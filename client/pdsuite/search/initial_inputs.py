@@ -5,7 +5,7 @@ from pathlib import Path
 
 from pdsuite.programs.trace import traced_events_in
 from pdsuite.run.batches import SuiteScript
-from pdsuite.run.collect import find_selected_scripts_and_read_configs, suite_scripts_with_config
+from pdsuite.run.collect import find_selected_script_files_and_read_configs, suite_scripts_with_config
 from pdsuite.run.run_batches import load_script_text_or_fault
 from pdsuite.scripts.config import SuiteConfig, layer_of_option
 from pdsuite.search.inputs import Input, Inputs
@@ -25,19 +25,19 @@ def suite_scripts_of_tree(tree: Path | None, stop: Stop) -> list[ConfiguredScrip
     return [
         it
         for script in suite_scripts_with_config(
-            find_selected_scripts_and_read_configs([tree / SUITE], [], suite, stop), suite
+            find_selected_script_files_and_read_configs([tree / SUITE], [], suite, stop), suite
         )
-        for it in _load_configured_script_if_readable(script)
+        for it in _yield_configured_script_if_readable(script)
     ]
 
 
-def _load_configured_script_if_readable(script: SuiteScript) -> Iterator[ConfiguredScript]:
+def _yield_configured_script_if_readable(script: SuiteScript) -> Iterator[ConfiguredScript]:
     text = load_script_text_or_fault(script)
     if not isinstance(text, str):
         yield ConfiguredScript(script.settings, text.octets)
 
 
-def record_initial_inputs(
+def record_corpus_without_fixed_settings(
     scripts: list[ConfiguredScript], oracle: SenderOracle, fixed: frozenset[str]
 ) -> list[CorpusEntry]:
     """The inputs of scripts with their recordings, without settings that are fixed; none of what isn't recorded."""

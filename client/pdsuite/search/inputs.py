@@ -46,7 +46,7 @@ class Inputs:
             before = it.at
 
 
-def make_call(name: str, *arguments: str | int) -> Call:
+def make_unrecorded_call(name: str, *arguments: str | int) -> Call:
     """A call, whose result a recording fills in."""
     return Call(name, tuple(map(str, arguments)), 0)
 

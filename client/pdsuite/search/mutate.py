@@ -9,9 +9,9 @@ from pdsuite.compare.divergence import parse_played_events
 from pdsuite.packetdrill.items import SECOND, Call, Packet, TcpOption
 from pdsuite.scripts.settings import Settings, sorted_settings
 from pdsuite.search.generate import KEYS
-from pdsuite.search.inputs import Input, Inputs, make_call, make_dataless_inbound_packet, options_text
+from pdsuite.search.inputs import Input, Inputs, make_dataless_inbound_packet, make_unrecorded_call, options_text
 from pdsuite.search.scenario import Emphasis, Theme
-from pdsuite.search.states import TracedState, states_before_inputs
+from pdsuite.search.states import TracedState, states_before_inputs_and_at_end
 
 T = TypeVar("T")
 
@@ -63,7 +63,7 @@ class InputMutator:
 
     def mutate_inputs_and_maybe_truncate(self, kept: CorpusEntry) -> MutatedInputs:
         """Inputs that are like these."""
-        states = states_before_inputs(list(parse_played_events(kept.recording)))
+        states = states_before_inputs_and_at_end(list(parse_played_events(kept.recording)))
         events = list(kept.inputs.events)
         open_from = next((place for place, it in enumerate(states) if it.is_open), len(events))
         place = self._draw_place_favouring_recovery(states, min(open_from, len(events)), len(events))
@@ -73,7 +73,7 @@ class InputMutator:
         for _ in range(self._random.randint(0 if goes_on else 1, _MOST_EDITS)):
             at = max(min(open_from, len(events)), min(len(events), place) - self._random.randint(0, 4))
             self._insert_move_delete_or_change_event(events, at, states[min(at, len(states) - 1)])
-        settings = self._mutate_settings(kept.inputs.settings)
+        settings = self._settings_with_at_most_one_drawn_anew(kept.inputs.settings)
         return MutatedInputs(Inputs(settings, _with_rising_moments(events), kept.inputs.is_exact), goes_on)
 
     def _draw_place_favouring_recovery(self, states: Sequence[TracedState], first: int, last: int) -> int:
@@ -86,7 +86,7 @@ class InputMutator:
     def _pick(self, values: Sequence[T]) -> T:
         return self._random.choice(values)
 
-    def _mutate_settings(self, given: Settings) -> Settings:
+    def _settings_with_at_most_one_drawn_anew(self, given: Settings) -> Settings:
         """Settings like these: mostly the same, or with another one."""
         if not self._keys or self._random.random() < (0.3 if self._first else 0.7):
             return given
@@ -107,7 +107,7 @@ class InputMutator:
         elif isinstance(there.what, Packet):
             events[at] = replace(there, what=self._change_packet_field(there.what, state))
         elif there.what.name == _WRITE:
-            events[at] = replace(there, what=make_call(_WRITE, 4, "...", self._pick(_SIZES)))
+            events[at] = replace(there, what=make_unrecorded_call(_WRITE, 4, "...", self._pick(_SIZES)))
 
     def _draw_gap_near_timer_or_preset(self, now: int, state: TracedState) -> int:
         """How long something waits: until the timer expires or an RTO, a little more or less, or some round time."""
@@ -127,11 +127,13 @@ class InputMutator:
         """A call or a packet that isn't there yet."""
         match self._random.choices(list(_KINDS), self._weights)[0]:
             case "write":
-                return make_call(_WRITE, 4, "...", self._pick(_SIZES))
+                return make_unrecorded_call(_WRITE, 4, "...", self._pick(_SIZES))
             case "close":
-                return make_call("close", 4)
+                return make_unrecorded_call("close", 4)
             case "no delay":
-                return make_call("setsockopt", self._pick((3, 4)), *_NODELAY[1:], self._pick(("[0]", "[1]")), 4)
+                return make_unrecorded_call(
+                    "setsockopt", self._pick((3, 4)), *_NODELAY[1:], self._pick(("[0]", "[1]")), 4
+                )
             case "odd":
                 return make_dataless_inbound_packet(
                     self._pick(("F.", "R", "R.", "-")), self._pick((1, 1, 2)), self._draw_ack_number(state), 257
@@ -140,7 +142,7 @@ class InputMutator:
 
     def _draw_ack(self, state: TracedState) -> Packet:
         window = self._pick((257, 32_792, self._pick(_WINDOWS)))
-        blocks = self._draw_sack_option(state) if self._random.random() < 0.5 else ()
+        blocks = self._draw_sack_blocks_in_or_around_flight(state) if self._random.random() < 0.5 else ()
         return make_dataless_inbound_packet(".", 1, self._draw_ack_number(state), window, blocks)
 
     def _draw_ack_number(self, state: TracedState) -> int:
@@ -151,7 +153,7 @@ class InputMutator:
             0, self._pick((una, una, una + offset, max(una, top - offset), top, top, top + 1, end, una - offset))
         )
 
-    def _draw_sack_option(self, state: TracedState) -> tuple[TcpOption, ...]:
+    def _draw_sack_blocks_in_or_around_flight(self, state: TracedState) -> tuple[TcpOption, ...]:
         """A SACK option."""
         una, top = state.fact_as_number_or_default("una", 1), state.fact_as_number_or_default("top", 1)
         numbers: list[int] = []
@@ -170,7 +172,7 @@ class InputMutator:
             case 1 if what.ack is not None:
                 return replace(what, ack=self._draw_ack_number(state))
             case 2:
-                options = self._draw_sack_option(state)
+                options = self._draw_sack_blocks_in_or_around_flight(state)
                 return replace(what, options=options, options_text=options_text(options))
         return replace(what, flags="F." if what.flags == "." else ".")
 

@@ -3,7 +3,7 @@
 import os
 from collections.abc import Callable, Iterable, Iterator, Mapping, Sequence
 from concurrent.futures import ThreadPoolExecutor
-from contextlib import ExitStack, contextmanager
+from contextlib import ExitStack, closing, contextmanager
 from dataclasses import dataclass, replace
 from itertools import repeat
 from pathlib import Path
@@ -17,11 +17,19 @@ from pdsuite.output.octets import printable_octets
 from pdsuite.programs.batch_protocol import ProgramAnswer, Case
 from pdsuite.programs.locate import RECORD, REGRESS
 from pdsuite.programs.program import Program, ProgramEndedError
-from pdsuite.programs.protocol import LONGEST_BLOCK, LONGEST_LINE, SETTLE, UnexpectedAnswerError
+from pdsuite.programs.protocol import (
+    LIST_RULES,
+    LONGEST_BLOCK,
+    LONGEST_LINE,
+    SETTLE,
+    RulesByLine,
+    UnexpectedAnswerError,
+)
 from pdsuite.programs.protocol import (
     add_command,
     parse_blocks_by_script_and_line,
     parse_new_rows,
+    parse_rules_by_script,
     script_name_of_number,
     set_and_show_commands,
     set_command,
@@ -30,6 +38,7 @@ from pdsuite.programs.recorder import TRACE, Recording, record_texts, recording_
 from pdsuite.programs.refusals import (
     Refusal,
     distinct_key_value_pairs,
+    query_refusal_lines,
     query_refused_settings_retrying_once,
     refusals_in_answer,
 )
@@ -39,9 +48,10 @@ from pdsuite.programs.verdict import Row, Verdict
 from pdsuite.run.batches import split_into_chunks_of_size
 from pdsuite.run.explainer import EXPLAIN
 from pdsuite.scripts.config import Claim
-from pdsuite.scripts.settings import Settings, set_command_words, settings_as_toml, sorted_settings
+from pdsuite.scripts.settings import Settings, set_command_words_or_placeholders, settings_as_toml, sorted_settings
 from pdsuite.scripts.text import ScriptText, UnfitTextError, make_newline_ended_text_within_limits
 from pdsuite.search.inputs import Inputs
+from pdsuite.search.rule_listers import RuleListers
 from pdsuite.signals import Stop
 
 A = TypeVar("A", bound="Inputs | ConfiguredScript")
@@ -81,8 +91,18 @@ class SenderOracle(Protocol):
         """The row of a script that doesn't pass with what it means, and the lines below it."""
 
 
-class SettingsOracle(SenderOracle, Protocol):
-    """Queries one sender about settings, too."""
+class RulesOracle(Protocol):
+    """Queries one sender about its rules."""
+
+    def require_that_rules_are_listed(self) -> None:
+        """Raises Fault where the sender lists no rules."""
+
+    def list_rules_of_scripts(self, scripts: Sequence[ConfiguredScript]) -> list[RulesByLine]:
+        """The rules that each script comes to, by the lines of its events; none of one on which the program ends."""
+
+
+class SettingsOracle(SenderOracle, RulesOracle, Protocol):
+    """Queries one sender about settings and rules, too."""
 
     def refusals_of_claims(self, claims: Sequence[Claim]) -> list[Refusal]:
         """The claims that the sender refuses."""
@@ -98,7 +118,7 @@ class SideOracle:
 
     def settings_on_side(self, given: Settings) -> Settings:
         """The settings under which inputs or a script with these are played."""
-        return self.side.effective_settings(sorted_settings({**dict(given), **dict(self.common)}))
+        return self.side.adapted_given_and_own_settings(sorted_settings({**dict(given), **dict(self.common)}))
 
     def record_inputs_or_scripts(self, inputs: Sequence[Inputs | ConfiguredScript]) -> list[Recording]:
         return self.oracle.record_inputs_or_scripts(
@@ -116,20 +136,22 @@ class SideOracle:
 
 
 @contextmanager
-def build_trees_and_open_oracles(senders: Sequence[Sender], stop: Stop) -> Iterator[list[SettingsOracle]]:
+def open_oracles_building_missing_programs(senders: Sequence[Sender], stop: Stop) -> Iterator[list[SettingsOracle]]:
     """The oracles of senders: programs, or those of a tree, which `rt try` builds once for the block, side by side."""
     with ExitStack() as stack:
-        trees = {it.known_tree_to_build for it in senders if not it.has_programs}
+        trees = {it.asserted_tree_to_build for it in senders if not it.has_programs}
         sessions = {tree: stack.enter_context(UnprovedSession(tree, stop)) for tree in trees}
         for session in sessions.values():
             session.wait_silently_until_built()
-        yield [_program_or_unproved_oracle(it, stop, sessions) for it in senders]
+        yield [_program_or_unproved_oracle(it, stop, sessions, stack) for it in senders]
 
 
-def _program_or_unproved_oracle(sender: Sender, stop: Stop, sessions: Mapping[Path, UnprovedSession]) -> SettingsOracle:
+def _program_or_unproved_oracle(
+    sender: Sender, stop: Stop, sessions: Mapping[Path, UnprovedSession], stack: ExitStack
+) -> SettingsOracle:
     if sender.has_programs:
-        return ProgramOracle(sender, stop)
-    return UnprovedOracle(sender, sessions[sender.known_tree_to_build])
+        return stack.enter_context(closing(ProgramOracle(sender, stop)))
+    return UnprovedOracle(sender, sessions[sender.asserted_tree_to_build])
 
 
 def input_counts_of_successive_queries() -> Iterator[int]:
@@ -149,6 +171,11 @@ class ProgramOracle:
         self._recorder = programs[RECORD]
         self._stop = stop
         self._count = len(os.sched_getaffinity(0))
+        self._listers = RuleListers(self._program, stop)
+
+    def close(self) -> None:
+        """Ends the programs that stay up."""
+        self._listers.close()
 
     def refusals_of_claims(self, claims: Sequence[Claim]) -> list[Refusal]:
         return query_refused_settings_retrying_once(claims, lambda: Program([self._program], self._stop))
@@ -157,7 +184,23 @@ class ProgramOracle:
         return self._query_groups_of_equal_settings(inputs, self._record_with_equal_settings)
 
     def run_scripts_for_rows(self, scripts: Sequence[ConfiguredScript]) -> list[Row]:
-        return self._query_groups_of_equal_settings(scripts, self._rows_with_equal_settings)
+        return self._query_groups_of_equal_settings(scripts, self._rows_of_joint_run_or_else_of_single_runs)
+
+    def require_that_rules_are_listed(self) -> None:
+        query_refusal_lines((), lambda: Program([self._program, LIST_RULES], self._stop))
+
+    def list_rules_of_scripts(self, scripts: Sequence[ConfiguredScript]) -> list[RulesByLine]:
+        return self._query_groups_of_equal_settings(scripts, self._rules_of_joint_run_or_else_of_single_runs)
+
+    def _rules_of_joint_run_or_else_of_single_runs(self, scripts: Sequence[ConfiguredScript]) -> list[RulesByLine]:
+        """The rules of scripts with equal settings. Where a program ends on the way, each is run by itself."""
+        texts = [_script_text_or_failing_if_too_long(it.octets) for it in scripts]
+        try:
+            return self._listers.list_rules(scripts[0].settings, texts)
+        except (ProgramEndedError, UnexpectedAnswerError):
+            if len(scripts) == 1:
+                return [{}]
+            return [rules for it in scripts for rules in self._rules_of_joint_run_or_else_of_single_runs([it])]
 
     def _record_with_equal_settings(self, inputs: Sequence[Inputs | ConfiguredScript]) -> list[Recording]:
         """The recordings of inputs with equal settings."""
@@ -168,25 +211,29 @@ class ProgramOracle:
         self, items: Sequence[A], work: Callable[[Sequence[A]], Sequence[U]]
     ) -> list[U]:
         """The result of each item: `work` gets those with equal settings together, `_PIECE` of them at most."""
-        pieces = list(_places_grouped_by_settings(items))
+        pieces = list(_chunks_of_places_with_equal_settings(items))
         answers = self._map_in_threads(lambda it: work([items[place] for place in it]), pieces)
         found = {place: one for piece, answer in zip(pieces, answers) for place, one in zip(piece, answer)}
         return [found[place] for place in range(len(items))]
 
     def explanation_lines_of_script(self, script: ConfiguredScript) -> list[str]:
         with self._start_program(script.settings, EXPLAIN) as program:
-            return _explanation_lines(program.finish_and_read_errors(_add_commands([script]), 2 * LONGEST_BLOCK))
+            return _explanation_lines(
+                program.send_last_commands_and_read_errors(_add_commands([script]), 2 * LONGEST_BLOCK)
+            )
 
-    def _rows_with_equal_settings(self, scripts: Sequence[ConfiguredScript]) -> list[Row]:
+    def _rows_of_joint_run_or_else_of_single_runs(self, scripts: Sequence[ConfiguredScript]) -> list[Row]:
         """The rows of scripts with equal settings. Where the program ends on the way, each is run by itself."""
         try:
             with self._start_program(scripts[0].settings) as program:
-                answer = program.query(_add_commands(scripts) + SETTLE, LONGEST_LINE * (len(scripts) + 2))
+                answer = program.query_answer_regardless_of_errors(
+                    _add_commands(scripts) + SETTLE, LONGEST_LINE * (len(scripts) + 2)
+                )
                 return parse_new_rows(answer, b"", _numbered_names(scripts), len(scripts))
         except (ProgramEndedError, UnexpectedAnswerError) as end:
             if len(scripts) == 1:
                 return [Row(Verdict.ERROR, 0, self._end_reason_from_plain_build_if_stopped(scripts[0], str(end)))]
-            return [row for it in scripts for row in self._rows_with_equal_settings([it])]
+            return [row for it in scripts for row in self._rows_of_joint_run_or_else_of_single_runs([it])]
 
     def _end_reason_from_plain_build_if_stopped(self, script: ConfiguredScript, end: str) -> str:
         """Why the program ended on a script. Where an optimised one stops, a plain one says where."""
@@ -209,7 +256,7 @@ class UnprovedOracle:
     """Queries the programs of a tree as it stands, which `rt try` has built."""
 
     def __init__(self, sender: Sender, session: UnprovedSession) -> None:
-        self._tree = sender.known_tree_to_build
+        self._tree = sender.asserted_tree_to_build
         self._session = session
 
     def refusals_of_claims(self, claims: Sequence[Claim]) -> list[Refusal]:
@@ -234,6 +281,15 @@ class UnprovedOracle:
         (answer,) = self._run_each_script_in_own_start([script], EXPLAIN)
         return [answer.fault] if answer.fault else _explanation_lines(answer.errors)
 
+    def require_that_rules_are_listed(self) -> None:
+        (answer,) = self._session.run_cases(ProgramCases(self._tree, REGRESS, (LIST_RULES,), (Case((), b""),)))
+        if answer.fault:
+            raise Fault(answer.fault)
+
+    def list_rules_of_scripts(self, scripts: Sequence[ConfiguredScript]) -> list[RulesByLine]:
+        answers = self._run_each_script_in_own_start(scripts, LIST_RULES)
+        return [parse_rules_by_script(it.errors).get(script_name_of_number(0), {}) for it in answers]
+
     def _run_each_script_in_own_start(self, scripts: Sequence[ConfiguredScript], *words: str) -> list[ProgramAnswer]:
         """The answer to each script, run in a start of its own, which costs little."""
         cases = tuple(Case((), _set_commands(it.settings) + _add_commands([it])) for it in scripts)
@@ -251,7 +307,7 @@ def _row_of_only_script_or_error_row(answer: ProgramAnswer) -> Row:
         return Row(Verdict.ERROR, 0, str(unexpected))
 
 
-def _places_grouped_by_settings(items: Sequence[A]) -> Iterable[tuple[int, ...]]:
+def _chunks_of_places_with_equal_settings(items: Sequence[A]) -> Iterable[tuple[int, ...]]:
     """The places of inputs or scripts, those with equal settings together."""
     groups: dict[Settings, list[int]] = {}
     for place, it in enumerate(items):
@@ -264,7 +320,7 @@ def _numbered_names(scripts: Sequence[ConfiguredScript]) -> list[bytes]:
 
 
 def _set_commands(settings: Settings) -> bytes:
-    return b"".join(set_command(*set_command_words(key, value)) for key, value in settings)
+    return b"".join(set_command(*set_command_words_or_placeholders(key, value)) for key, value in settings)
 
 
 def _add_commands(scripts: Sequence[ConfiguredScript]) -> bytes:

@@ -51,11 +51,11 @@ class Search:
         begin = time.monotonic()
         coverage = Coverage()
         unshown: Find | None = None
-        for games in self.candidates.input_lists():
+        for games in self.candidates.input_list_for_each_size():
             played = [it for it in play_input_steps_in_joint_recordings(games, self.before) if it.recording.text]
-            _count_coverage(coverage, played)
+            _count_reached_states_options_and_settings(coverage, played)
             self.candidates.keep_inputs_with_new_steps(played)
-            found, hidden = self._simplest_find_or_hidden_difference(played)
+            found, hidden = self._find_or_continued_find_and_unshown_one(played)
             unshown = unshown or hidden
             if found is not None:
                 return self._shrink_find_into_search_result(found, self.test, coverage, time.monotonic() - begin)
@@ -77,7 +77,9 @@ class Search:
         found, unshown = (least, None) if test is self.test else (None, least)
         return SearchResult(found, unshown, coverage, seconds, time.monotonic() - begin)
 
-    def _simplest_find_or_hidden_difference(self, played: Sequence[PlayedInputs]) -> tuple[Find | None, Find | None]:
+    def _find_or_continued_find_and_unshown_one(
+        self, played: Sequence[PlayedInputs]
+    ) -> tuple[Find | None, Find | None]:
         """The simplest find, or else the simplest input on which senders play otherwise, and nothing shows it."""
         inputs, recordings = [it.inputs for it in played], [it.recording for it in played]
         if self.hidden is None:
@@ -96,7 +98,7 @@ class Search:
             else None
         )
         if found is None:
-            found = self._search_from_differences(
+            found = self._simplest_find_played_on_from_differences(
                 sorted((it for it in differences if not it.is_played), key=_difference_size) + shown
             )
         return found, shown[0].find if shown else None
@@ -109,12 +111,12 @@ class Search:
             else None
         )
 
-    def _search_from_differences(self, differences: Sequence[SenderDifference]) -> Find | None:
+    def _simplest_find_played_on_from_differences(self, differences: Sequence[SenderDifference]) -> Find | None:
         """A find among inputs that go on from where the senders began to differ."""
         begun = list(dict.fromkeys(_inputs_until_difference(it) for it in differences))[:_TRIED]
         if not begun:
             return None
-        scenarios = self.candidates.more_scenarios(len(begun) * _PLANS)
+        scenarios = self.candidates.generate_further_scenarios(len(begun) * _PLANS)
         played = play_input_steps_in_joint_recordings(
             [play_on_from_inputs(scenario, begun[number % len(begun)]) for number, scenario in enumerate(scenarios)],
             self.before,
@@ -168,7 +170,7 @@ def _simplest_find(finds: Iterable[Find | None]) -> Find | None:
     return there[0] if there else None
 
 
-def _count_coverage(coverage: Coverage, played: Iterable[PlayedInputs]) -> None:
+def _count_reached_states_options_and_settings(coverage: Coverage, played: Iterable[PlayedInputs]) -> None:
     for it in played:
         syns = [event.what for event in it.inputs.events if isinstance(event.what, Packet) and event.what.flags == "S"]
         options = [option.name for syn in syns for option in syn.options]

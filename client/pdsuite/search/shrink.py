@@ -8,18 +8,18 @@ from itertools import islice
 from pdsuite.compare.divergence import parse_played_events
 from pdsuite.packetdrill.items import Call, Packet, TcpOption
 from pdsuite.search.find import TRACE, Find, FindTest
-from pdsuite.search.inputs import Input, Inputs, make_call, options_text
+from pdsuite.search.inputs import Input, Inputs, make_unrecorded_call, options_text
 from pdsuite.search.oracle import SenderOracle
 from pdsuite.search.renumber import inputs_less_one_round
 from pdsuite.search.simulate import TICK
-from pdsuite.search.states import states_before_inputs
+from pdsuite.search.states import states_before_inputs_and_at_end
 
 _GAPS = (0, 1_000, 100_000, 200_000, 1_000_000, 10_000_000)
 _WINDOWS = (257, 32_792, 1_000)
 _SIZES = (1, 100, 1_000, 2_000, 3_000, 4_000, 5_000, 8_000, 10_000)
 _WRITE = "write"
 # The last call on a connection, one of these: it shows whether that is reset, and sends what a window lets go.
-_LAST = (make_call(_WRITE, 4, "...", 1_000), make_call("close", 4))
+_LAST = (make_unrecorded_call(_WRITE, 4, "...", 1_000), make_unrecorded_call("close", 4))
 # So many inputs without a round are tried at once.
 _AT_ONCE = 96
 _NOT_ZERO = tuple(b"%d" % digit for digit in range(1, 10))
@@ -55,7 +55,7 @@ def size_of_inputs(it: Inputs) -> _Size:
     return (len(it.events), len(it.settings), int(it.is_exact), len(text), sum(map(text.count, _NOT_ZERO)))
 
 
-def _script_lines_and_inputs_size(it: Find) -> tuple[int, _Size]:
+def _lines_until_failure_and_inputs_size(it: Find) -> tuple[int, _Size]:
     """How simple a find is: the lines of its script up to the one that fails, and its inputs."""
     lines = it.recording.count(TRACE) if it.row is None or it.row.line is None else it.row.line
     return lines, size_of_inputs(it.inputs)
@@ -65,9 +65,9 @@ def _smaller_find(find: Find, test: FindTest, before: SenderOracle) -> Find | No
     """A smaller find, if there is one: without events or rounds, then under fewer rules, then with simpler events."""
     whole = find.inputs
     for changes in (list(_piece_removals(whole)), list(_single_removals(whole))):
-        if (found := _smaller_find_by_combining_good_changes(find, changes, test, before)) is not None:
+        if (found := _smaller_find_by_all_or_fewer_good_changes(find, changes, test, before)) is not None:
             return found
-    states = states_before_inputs(list(parse_played_events(find.recording)))
+    states = states_before_inputs_and_at_end(list(parse_played_events(find.recording)))
     if len(states) == len(whole.events) + 1:
         rounds = inputs_less_one_round(whole, states)
         while some := list(islice(rounds, _AT_ONCE)):
@@ -76,22 +76,22 @@ def _smaller_find(find: Find, test: FindTest, before: SenderOracle) -> Find | No
     for others in (list(_without_one_setting_or_exactness(whole)), list(_rest_replaced_by_write_or_close(whole))):
         if (found := _least_smaller_find_among_candidates(find, others, test, before)) is not None:
             return found
-    return _smaller_find_by_combining_good_changes(find, list(_simpler_event_changes(whole)), test, before)
+    return _smaller_find_by_all_or_fewer_good_changes(find, list(_simpler_event_changes(whole)), test, before)
 
 
-def _smaller_find_by_combining_good_changes(
+def _smaller_find_by_all_or_fewer_good_changes(
     find: Find, changes: Sequence[_Changes], test: FindTest, before: SenderOracle
 ) -> Find | None:
     """The find that all changes lead to which lead to one by themselves, or else half of these, and so on."""
-    size, least = size_of_inputs(find.inputs), _script_lines_and_inputs_size(find)
+    size, least = size_of_inputs(find.inputs), _lines_until_failure_and_inputs_size(find)
     tried = [it for it in changes if size_of_inputs(_apply_changes(find.inputs, it)) < size]
     found = _record_and_test_candidates([_apply_changes(find.inputs, it) for it in tried], test, before)
-    good = [(_script_lines_and_inputs_size(it), number) for number, it in enumerate(found) if it is not None]
+    good = [(_lines_until_failure_and_inputs_size(it), number) for number, it in enumerate(found) if it is not None]
     chosen = [number for smaller, number in sorted(good) if smaller < least]
     while len(chosen) > 1:
         together = _apply_changes(find.inputs, [change for number in chosen for change in tried[number]])
         (both,) = _record_and_test_candidates([together], test, before)
-        if both is not None and _script_lines_and_inputs_size(both) < least:
+        if both is not None and _lines_until_failure_and_inputs_size(both) < least:
             return both
         chosen = chosen[: len(chosen) // 2]
     return found[chosen[0]] if chosen else None
@@ -100,13 +100,13 @@ def _smaller_find_by_combining_good_changes(
 def _least_smaller_find_among_candidates(
     find: Find, candidates: Sequence[Inputs], test: FindTest, before: SenderOracle
 ) -> Find | None:
-    least = _script_lines_and_inputs_size(find)
+    least = _lines_until_failure_and_inputs_size(find)
     there = [
         it
         for it in _record_and_test_candidates(candidates, test, before)
-        if it is not None and _script_lines_and_inputs_size(it) < least
+        if it is not None and _lines_until_failure_and_inputs_size(it) < least
     ]
-    return min(there, key=_script_lines_and_inputs_size) if there else None
+    return min(there, key=_lines_until_failure_and_inputs_size) if there else None
 
 
 def _record_and_test_candidates(
@@ -186,7 +186,7 @@ def _simpler_packets_or_calls(what: Packet | Call) -> Iterator[Packet | Call]:
         if what.name == _WRITE and what.arguments[-1].isdecimal():
             yield from (replace(what, arguments=(*what.arguments[:-1], str(it))) for it in _SIZES)
         return
-    for options in _shorter_option_lists(what.options):
+    for options in _options_less_one_or_less_one_sack_block(what.options):
         yield replace(what, options=options, options_text=options_text(options))
     if what.win is not None:
         yield from (replace(what, win=it) for it in _WINDOWS)
@@ -194,7 +194,7 @@ def _simpler_packets_or_calls(what: Packet | Call) -> Iterator[Packet | Call]:
         yield replace(what, flags=".")
 
 
-def _shorter_option_lists(options: tuple[TcpOption, ...]) -> Iterator[tuple[TcpOption, ...]]:
+def _options_less_one_or_less_one_sack_block(options: tuple[TcpOption, ...]) -> Iterator[tuple[TcpOption, ...]]:
     """Without one option, or without one block."""
     for place, option in enumerate(options):
         before, after = options[:place], options[place + 1 :]

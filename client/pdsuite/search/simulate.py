@@ -9,20 +9,20 @@ from itertools import count
 from pdsuite.compare.divergence import PlayedEvent, parse_played_events
 from pdsuite.packetdrill.items import SECOND, Call, Packet
 from pdsuite.programs.recorder import Recording
-from pdsuite.search.inputs import Input, Inputs, make_call, make_dataless_inbound_packet
+from pdsuite.search.inputs import Input, Inputs, make_dataless_inbound_packet, make_unrecorded_call
 from pdsuite.search.peer import Peer
 from pdsuite.search.scenario import Ending, Handshake, IrregularPacket, Irregularity, Scenario
 from pdsuite.search.states import TracedState, parse_state
 
 SYN_AT = 100_000
 # A call that changes nothing.
-TICK = make_call("fcntl", 3, "F_SETFL", "O_RDWR")
+TICK = make_unrecorded_call("fcntl", 3, "F_SETFL", "O_RDWR")
 LISTENING = (
-    make_call("socket", "...", "SOCK_STREAM", "IPPROTO_TCP"),
-    make_call("bind", 3, "...", "..."),
-    make_call("listen", 3, 1),
+    make_unrecorded_call("socket", "...", "SOCK_STREAM", "IPPROTO_TCP"),
+    make_unrecorded_call("bind", 3, "...", "..."),
+    make_unrecorded_call("listen", 3, 1),
 )
-ACCEPT = make_call("accept", 3, "...", "...")
+ACCEPT = make_unrecorded_call("accept", 3, "...", "...")
 
 # The longest time between two events, so many of which have more expiries than a sender keeps packets.
 LONGEST_GAP = 3_600 * SECOND
@@ -143,7 +143,7 @@ class _Simulation:
         self._peer.resume_at_numbers(
             una, state.fact_as_number_or_default("top", 1), 2 if any(_has_fin(it.what) for it in begun.events) else 1
         )
-        segments = list(_sent_segments_of(played))
+        segments = list(_sent_data_and_fin_segments_of(played))
         self._seen = len(segments)
         for start, end in dict.fromkeys((start, end) for _, start, end in segments if end > una):
             self._schedule_arrival_unless_lost(self._now, start, end)
@@ -156,7 +156,7 @@ class _Simulation:
         for irregular in self._scenario.irregular:
             self._schedule(self._established_at + irregular.after, irregular)
         for _ in range(self._scenario.rounds):
-            if not self._add_inputs_due_within_round_trip():
+            if not self._add_due_inputs_or_expiry_wait_if_any():
                 break
             yield from self._record_inputs_and_deliver_segments()
         self._events = [it for it in self._events[:-1] if it.what is not TICK] + self._events[-1:]
@@ -170,7 +170,7 @@ class _Simulation:
     def _schedule(self, at: int, what: "Call | Packet | IrregularPacket | _Arrival | None") -> None:
         heapq.heappush(self._due, _Due(at, next(self._places), what))
 
-    def _add_inputs_due_within_round_trip(self) -> bool:
+    def _add_due_inputs_or_expiry_wait_if_any(self) -> bool:
         """Puts in what is due before the sender could be answered; whether there was anything."""
         while True:
             if not self._due and self._expiry is None:
@@ -238,7 +238,7 @@ class _Simulation:
         played = list(parse_played_events(self._recording.text))
         if played:
             self._note_sender_state(played[-1])
-        segments = list(_sent_segments_of(played))
+        segments = list(_sent_data_and_fin_segments_of(played))
         for at, start, end in segments[self._seen :]:
             self._schedule_arrival_unless_lost(at, start, end)
         self._seen = len(segments)
@@ -270,7 +270,7 @@ class _Simulation:
         elif self._expiry is not None and ending is not Ending.NONE:
             yield Input(self._expiry + (self._expiry - at) // 2 + 1, TICK)
         elif ending is Ending.WRITE and self._state in _WRITABLE:
-            yield Input(at + 1_000, make_call("write", 4, "...", _LONG_WRITE))
+            yield Input(at + 1_000, make_unrecorded_call("write", 4, "...", _LONG_WRITE))
             yield Input(at + 10 * SECOND, TICK)
 
 
@@ -307,7 +307,7 @@ def _has_fin(what: Packet | Call) -> bool:
     return isinstance(what, Packet) and "F" in what.flags
 
 
-def _sent_segments_of(played: list[PlayedEvent]) -> Iterator[tuple[int, int, int]]:
+def _sent_data_and_fin_segments_of(played: list[PlayedEvent]) -> Iterator[tuple[int, int, int]]:
     """The moments and octets of segments with data or a FIN."""
     for it in played:
         if found := _SENT.match(it.line):

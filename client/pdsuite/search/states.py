@@ -86,7 +86,7 @@ def is_input(it: PlayedEvent) -> bool:
     return it.line.split(" ", 2)[1:2] != [">"]
 
 
-def states_before_inputs(played: Sequence[PlayedEvent]) -> list[TracedState]:
+def states_before_inputs_and_at_end(played: Sequence[PlayedEvent]) -> list[TracedState]:
     """The sender's state before each input, and last the one at the end."""
     states = [TracedState("CLOSED")]
     last = states[0]

@@ -42,7 +42,7 @@ class ChangeReport:
         """The rows that changed, without their explanations: first of those that don't pass, last what went."""
         form = PlainFormatter(True)
         text = StyledText()
-        for outcome in changed_outcomes(before, after):
+        for outcome in outcomes_with_changed_rows_passing_last(before, after):
             text.append_text(form.row_and_warnings(outcome))
         for path in gone_paths(before, after):
             text.append_text(gone_row(path))
@@ -50,7 +50,7 @@ class ChangeReport:
 
     def changed_explanations(self, before: Outcomes, after: Outcomes, moves: Sequence[Move]) -> StyledText:
         """The explanations of the rows that changed, and of others where they are others."""
-        return render_script_entries(outcomes_with_new_row_or_explanation(before, after), False)
+        return render_script_entries(outcomes_with_line_and_new_row_or_explanation(before, after), False)
 
     def turned_entries(self, scripts: Sequence[ComparedScript]) -> StyledText:
         """The scripts that another sender turned."""
@@ -84,12 +84,12 @@ def totals_of(outcomes: Outcomes, is_unproved: bool = False) -> OutcomeTotals:
 
 def mark_as_of_sender_before(text: StyledText) -> StyledText:
     """A part of a report that is of a sender that doesn't stand any more: each of its rows says so, and all is dim."""
-    lines = text.plain.splitlines()
+    lines = text.text_without_styles.splitlines()
     marked = [line if line.startswith("  ") else f"{line}{BEFORE}" for line in lines]
     return StyledText([("".join(f"{line}\n" for line in marked), "dim")])
 
 
-def changed_outcomes(before: Outcomes, after: Outcomes) -> list[ScriptOutcome]:
+def outcomes_with_changed_rows_passing_last(before: Outcomes, after: Outcomes) -> list[ScriptOutcome]:
     """The outcomes whose rows changed, last those that pass or are known not to."""
     found = [it for path, it in after.items() if path not in before or _is_shown_otherwise(before[path], it)]
     return sorted(found, key=lambda it: it.counted_as in (Verdict.PASS, CountedAs.KNOWN))
@@ -105,9 +105,9 @@ def gone_row(path: str) -> StyledText:
     return StyledText([(f"{printable_path(path)}: ", "")]).append("gone\n", "dim")
 
 
-def outcomes_with_new_row_or_explanation(before: Outcomes, after: Outcomes) -> list[ScriptOutcome]:
+def outcomes_with_line_and_new_row_or_explanation(before: Outcomes, after: Outcomes) -> list[ScriptOutcome]:
     """The outcomes of which something is to be shown: their rows changed, or their explanations did."""
-    return [it for path, it in after.items() if _has_new_row_or_explanation(before.get(path), it)]
+    return [it for path, it in after.items() if _has_line_and_new_row_or_explanation(before.get(path), it)]
 
 
 def render_script_entries(outcomes: Iterable[ScriptOutcome], every: bool) -> StyledText:
@@ -133,7 +133,7 @@ def _is_shown_otherwise(old: ScriptOutcome, new: ScriptOutcome) -> bool:
     )
 
 
-def _has_new_row_or_explanation(old: ScriptOutcome | None, new: ScriptOutcome) -> bool:
+def _has_line_and_new_row_or_explanation(old: ScriptOutcome | None, new: ScriptOutcome) -> bool:
     if new.row.line is None:
         return False
     if old is None or _is_shown_otherwise(old, new):

@@ -30,21 +30,24 @@ def folder_moves_between(
     wanted_after: Mapping[str, WantedScript],
 ) -> list[Move]:
     """The folders that moved. One that can't be distinguished from another that went, or came, isn't among them."""
-    gone, come = _folders_only_in(before, after), _folders_only_in(after, before)
+    gone, come = _script_names_of_folders_sharing_no_path(before, after), _script_names_of_folders_sharing_no_path(
+        after, before
+    )
     if not gone or not come:
         return []
     stay, were = _set_of_folders_above(after), _set_of_folders_above(before)
     pairs: dict[tuple[str, str], dict[str, str]] = defaultdict(dict)
-    for old, new in _pair_folders_by_script_names(gone, come):
+    for old, new in _unambiguous_folder_pairs_by_script_names(gone, come):
         scripts = {os.path.join(old, name): os.path.join(new, name) for name in sorted(gone[old])}
         if all(
-            _wanted_octets(wanted_before, it) == _wanted_octets(wanted_after, other) for it, other in scripts.items()
+            _octets_of_wanted_script_or_none(wanted_before, it) == _octets_of_wanted_script_or_none(wanted_after, other)
+            for it, other in scripts.items()
         ):
             pairs[_topmost_moved_pair_above(old, new, stay, were)].update(scripts)
     return [Move(old, new, scripts) for (old, new), scripts in sorted(pairs.items())]
 
 
-def _folders_only_in(these: Outcomes, others: Outcomes) -> _Folders:
+def _script_names_of_folders_sharing_no_path(these: Outcomes, others: Outcomes) -> _Folders:
     """The folders all of whose scripts are in the one report and not in the other, each with their names."""
     lost = {path for path in these if path not in others}
     shared = {os.path.dirname(path) for path in these.keys() - lost}
@@ -66,7 +69,7 @@ def _set_of_folders_above(outcomes: Outcomes) -> set[str]:
     return folders
 
 
-def _pair_folders_by_script_names(gone: _Folders, come: _Folders) -> Iterator[tuple[str, str]]:
+def _unambiguous_folder_pairs_by_script_names(gone: _Folders, come: _Folders) -> Iterator[tuple[str, str]]:
     """The folders that went and came with the same scripts; where these are several, with the same name too."""
     came = _folders_by_given_key(come, lambda folder: (come[folder], ""))
     named = _folders_by_given_key(come, lambda folder: (come[folder], os.path.basename(folder)))
@@ -100,6 +103,6 @@ def _topmost_moved_pair_above(old: str, new: str, stay: Set[str], were: Set[str]
     return old, new
 
 
-def _wanted_octets(wanted: Mapping[str, WantedScript], path: str) -> bytes | None:
+def _octets_of_wanted_script_or_none(wanted: Mapping[str, WantedScript], path: str) -> bytes | None:
     it = wanted.get(path)
     return None if it is None else it.text.octets

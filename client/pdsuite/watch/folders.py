@@ -17,7 +17,7 @@ from pdsuite.watch.watched_files import (
     WatchedFile,
     WatchedFiles,
     has_any_script_changed,
-    read_watched_file_returning_whether_torn,
+    read_watched_file_marking_unclosed_as_torn,
     update_holding_back_gone_and_torn,
 )
 from pdsuite.watch.watched_files import reread_changed_watched_files
@@ -120,7 +120,7 @@ class Folders:
         seen = {path: self._freshly_read_file(path, closed) for path in paths if path in self.files}
         # Only a look at all there is shows which files are gone or new.
         if is_walk or len(seen) < len(paths) or any(it.is_gone for it in seen.values()):
-            return self._walk_and_schedule(closed, now)
+            return self._walk_and_schedule_returning_whether_changed(closed, now)
         return bool(seen) and self._apply_seen_files_returning_whether_changed({**self.files, **seen}, now)
 
     def _note_event_returning_whether_walk_needed(self, event: FileEvent, paths: set[str], now: float) -> bool:
@@ -140,11 +140,11 @@ class Folders:
 
     def _freshly_read_file(self, path: str, closed: Set[tuple[str, str]]) -> WatchedFile:
         known = self.files[path]
-        return read_watched_file_returning_whether_torn(
+        return read_watched_file_marking_unclosed_as_torn(
             known.found, known, (known.found.folder, known.found.name) in closed
         )
 
-    def _walk_and_schedule(self, closed: Set[tuple[str, str]], now: float) -> bool:
+    def _walk_and_schedule_returning_whether_changed(self, closed: Set[tuple[str, str]], now: float) -> bool:
         """Looks at all there is, with what was closed just now, and says when it is to be done again."""
         self._walk_at = self._quiet_at = inf
         self._busy_since = None
@@ -197,7 +197,7 @@ class Folders:
     def _report_unused_tables(self) -> None:
         """Reports tables whose scripts aren't there, each once while that is so."""
         held = {(it.folder, it.name) for it in (self.files[path].found for path in self._gone if path in self.files)}
-        unused = self._settings_files.unused_table_lines_to_print(held)
+        unused = self._settings_files.unused_table_lines_to_print_unless_held(held)
         for line in unused:
             if line not in self._unused:
                 self._note(f"{line}; all else in the file counts")

@@ -8,7 +8,7 @@ from pdsuite.programs.program import ProgramEndedError
 from pdsuite.programs.protocol import Cause
 from pdsuite.programs.verdict import Row, Verdict
 from pdsuite.run.batches import PIECE_SIZE, Batch, SuiteScript, split_into_chunks_of_size
-from pdsuite.run.explainer import outcome_explained_by_cause
+from pdsuite.run.explainer import outcome_with_failure_reason_or_end_warning
 from pdsuite.run.outcomes import ScriptOutcome
 from pdsuite.run.run_batches import SettledPiece, Start, UnexplainedScript, run_batch
 from pdsuite.scripts.settings import Settings
@@ -88,7 +88,7 @@ class LivePool:
                 self._start_run(run.contents, place)
             except ProgramEndedError:
                 continue  # the old one goes on
-            self._end_run(run)
+            self._end_run_returning_its_place(run)
         return bool(worn)
 
     def rows(self) -> Iterator[tuple[str, Row]]:
@@ -105,15 +105,15 @@ class LivePool:
     def outcome_with_explanation(self, outcome: ScriptOutcome, wanted: WantedScript) -> ScriptOutcome:
         """An outcome with its explanation."""
         causes = (run.causes[outcome.path] for run in self._runs if outcome.path in run.causes)
-        return outcome_explained_by_cause(outcome, next(causes, None), wanted.text)
+        return outcome_with_failure_reason_or_end_warning(outcome, next(causes, None), wanted.text)
 
-    def step_counts_by_path(self) -> Mapping[str, int]:
+    def step_counts_at_last_change_of_each_run(self) -> Mapping[str, int]:
         """How many steps scripts took that ran at the last change, by their paths."""
         return {path: it for run in self._runs for path, it in run.steps.items()}
 
     def _apply_change_or_restart_run(self, run: LiveRun | None, change: RunChange) -> None:
         if run is not None and not change.after.texts:
-            self._end_run(run)
+            self._end_run_returning_its_place(run)
             return
         try:
             if run is None:
@@ -135,7 +135,7 @@ class LivePool:
             raise
         self._runs.insert(place, run)
 
-    def _end_run(self, run: LiveRun) -> int:
+    def _end_run_returning_its_place(self, run: LiveRun) -> int:
         """Ends a run; the number that it had."""
         place = self._runs.index(run)
         del self._runs[place]
@@ -144,7 +144,7 @@ class LivePool:
 
     def _restart_run(self, run: LiveRun | None, contents: RunContents, reason: str) -> None:
         """Starts a new run with all files of one that ended. If that ends too, each script is tried by itself."""
-        place = len(self._runs) if run is None else self._end_run(run)
+        place = len(self._runs) if run is None else self._end_run_returning_its_place(run)
         self._note(f"pdsuite: {reason}; a new run begins with {_path_or_count(list(contents.texts))}")
         try:
             self._start_run(contents, place)
@@ -153,7 +153,7 @@ class LivePool:
 
     def _restart_without_fatal_scripts(self, contents: RunContents, place: int) -> None:
         """Finds the scripts on which a run ends, and starts one with all others."""
-        rows = self._find_fatal_scripts(contents)
+        rows = self._rows_of_fatal_scripts_by_batch_run(contents)
         rest = {path: text for path, text in contents.texts.items() if path not in rows}
         if rest:
             try:
@@ -178,7 +178,7 @@ class LivePool:
             run.program.kill_and_close()
         return True
 
-    def _find_fatal_scripts(self, contents: RunContents) -> dict[str, Row]:
+    def _rows_of_fatal_scripts_by_batch_run(self, contents: RunContents) -> dict[str, Row]:
         """The scripts on which a run ends twice, as `pdsuite run` finds them, each with its row."""
         scripts = [SuiteScript(index, path, contents.settings) for index, path in enumerate(contents.texts)]
         batch = Batch(contents.settings, tuple(split_into_chunks_of_size(scripts, PIECE_SIZE)))

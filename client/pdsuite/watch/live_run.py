@@ -56,10 +56,10 @@ class LiveRun:
         self.rows = dict(zip(self._names, rows))
         self.contents = after
         self.acts += sum(1 + _PER_JOB * (len(names) if isinstance(it, SetKey) else 1) for it in acts)
-        self._update_causes_of_rerun_scripts(acts, self._key_by_paths(causes))
+        self._replace_causes_of_rerun_scripts(acts, self._key_by_paths(causes))
         self.steps = self._key_by_paths(parse_step_counts_by_script(errors))
 
-    def _update_causes_of_rerun_scripts(self, acts: Sequence[Act], causes: Mapping[str, Cause]) -> None:
+    def _replace_causes_of_rerun_scripts(self, acts: Sequence[Act], causes: Mapping[str, Cause]) -> None:
         """Takes the explanations of the scripts that have run again; any other keeps the one before."""
         for it in acts:
             if isinstance(it, SetKey):

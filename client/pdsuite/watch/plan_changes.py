@@ -5,8 +5,8 @@ from collections.abc import Iterator, Mapping, Sequence
 from dataclasses import dataclass
 
 from pdsuite.run.batches import BATCH_SIZE
-from pdsuite.scripts.defaults import has_default_for_each_dropped_setting, settings_changed_between
-from pdsuite.scripts.settings import Settings, set_command_words
+from pdsuite.scripts.defaults import has_default_for_each_old_key_not_in_new, changed_settings_with_new_values
+from pdsuite.scripts.settings import Settings, set_command_words_or_placeholders
 from pdsuite.scripts.text import ScriptText
 from pdsuite.scripts.text_edit import Edit, edit_between
 
@@ -78,7 +78,7 @@ def plan_changes(runs: Sequence[RunContents], wanted: Mapping[str, WantedScript]
     after: list[RunContents] = []
     placed: set[str] = set()
     for run, target in zip(runs, targets):
-        stays = {path: wanted[path].text for path in run.texts if _has_settings(wanted.get(path), target)}
+        stays = {path: wanted[path].text for path in run.texts if _is_wanted_with_settings(wanted.get(path), target)}
         placed.update(stays)
         after.append(RunContents(run.settings if target is None else target, stays))
     _place_in_runs({path: it for path, it in wanted.items() if path not in placed}, after)
@@ -87,7 +87,7 @@ def plan_changes(runs: Sequence[RunContents], wanted: Mapping[str, WantedScript]
     return [change for change in [*old, *new] if change.acts]
 
 
-def _has_settings(it: WantedScript | None, settings: Settings | None) -> bool:
+def _is_wanted_with_settings(it: WantedScript | None, settings: Settings | None) -> bool:
     return it is not None and it.settings == settings
 
 
@@ -115,7 +115,7 @@ def _target_settings_of_each_run(
 
     A run that can't be given them has none, and ends.
     """
-    choices = [_run_settings_by_frequency(run, wanted) for run in runs]
+    choices = [_wanted_settings_of_run_most_frequent_first(run, wanted) for run in runs]
     need = {
         settings: -(-count // BATCH_SIZE) for settings, count in Counter(it.settings for it in wanted.values()).items()
     }
@@ -128,7 +128,7 @@ def _target_settings_of_each_run(
             if (
                 settings == before
                 or having[settings] < need[settings]
-                and has_default_for_each_dropped_setting(before, settings)
+                and has_default_for_each_old_key_not_in_new(before, settings)
             ):
                 targets[number] = settings
                 having[settings] += 1
@@ -136,7 +136,7 @@ def _target_settings_of_each_run(
     return targets
 
 
-def _run_settings_by_frequency(run: RunContents, wanted: Mapping[str, WantedScript]) -> list[Settings]:
+def _wanted_settings_of_run_most_frequent_first(run: RunContents, wanted: Mapping[str, WantedScript]) -> list[Settings]:
     """The settings that a run's scripts are to have: those of most scripts first, and of equally many its own."""
     counts = Counter(wanted[path].settings for path in run.texts if path in wanted)
     return sorted(counts, key=lambda it: (-counts[it], it != run.settings))
@@ -155,8 +155,8 @@ def _remove_acts(old: RunContents, new: RunContents) -> Iterator[RemoveScript]:
 def _set_key_acts(old: RunContents, new: RunContents) -> Iterator[SetKey]:
     if old.settings != new.settings:
         yield from (
-            SetKey(*set_command_words(key, value))
-            for key, value in settings_changed_between(old.settings, new.settings)
+            SetKey(*set_command_words_or_placeholders(key, value))
+            for key, value in changed_settings_with_new_values(old.settings, new.settings)
         )
 
 

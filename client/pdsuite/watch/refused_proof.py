@@ -31,7 +31,7 @@ class RefusedProof:
         before, stamp = self.lines, self._file_stamp()
         if stamp != self._stamp:
             self._stamp = stamp
-            self.lines = tuple(self._read_lines())
+            self.lines = tuple(self._lines_of_file_if_there_and_readable())
             self._named = {path: stamp_or_errno_of_file(path) for line in self.lines for path in _PLACE.findall(line)}
         elif not are_stamps_current(self._named):
             self.lines, self._named = (), {}
@@ -40,7 +40,7 @@ class RefusedProof:
     def _file_stamp(self) -> Stamp:
         return (_NONE,) if self._file is None else stamp_or_errno_of_file(self._file)
 
-    def _read_lines(self) -> Iterator[str]:
+    def _lines_of_file_if_there_and_readable(self) -> Iterator[str]:
         if self._file is None or len(self._stamp) == _NONE:
             return
         try:

@@ -89,7 +89,7 @@ class SenderFollower:
         """The phase of the build that goes on, and how long that phase has lasted."""
         return "" if self._building is None else f"{self.build_phase} {self._building.phase_seconds:.0f} s"
 
-    def update_sender_returning_whether_changed(self, now: float) -> bool:
+    def update_returning_if_sender_or_reason_changed(self, now: float) -> bool:
         """Looks at what stands; whether that is other than it was."""
         before = self.sender, self.reason, self.failure
         if self._building is not None and not are_stamps_current(self._sources or {}):
@@ -153,7 +153,7 @@ class SenderFollower:
             self._building = Build(tree, WAY)
         if self._building is None:
             return
-        self._building.read_progress()
+        self._building.read_output_to_update_phase_and_is_over()
         if not self._building.is_over:
             return
         try:

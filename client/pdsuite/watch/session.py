@@ -106,7 +106,7 @@ class Session:
         self._sources.watch_folders_or_return_limit(follower.folders_to_watch())
         self._sources.read_events()
         failure = follower.failure
-        if follower.update_sender_returning_whether_changed(time.monotonic()) or follower.sender != self._sender:
+        if follower.update_returning_if_sender_or_reason_changed(time.monotonic()) or follower.sender != self._sender:
             self._switch_sender(follower.sender)
             if not follower.is_current:
                 self._view.say_sender_outdated(follower.reason)
@@ -114,7 +114,7 @@ class Session:
                 self._view.say_sender_refused(_not_built_lines(follower.failure))
         if self._refused_proof.reread_lines_returning_whether_changed() and self._refused_proof.lines:
             self._view.say_sender_refused(self._refused_proof.lines)
-        self._show_sender_progress(follower.build_phase_and_seconds)
+        self._show_sender_progress_and_page_refusals(follower.build_phase_and_seconds)
 
     def _switch_sender(self, sender: LiveSender | None) -> None:
         """Goes over to the sender that answers now."""
@@ -122,7 +122,7 @@ class Session:
         if sender is None:
             self._end_runs()
         elif sender != before:
-            pool = self._end_runs_and_open_pool_of_sender(sender)
+            pool = self._reopen_pool_for_sender_checking_settings(sender)
             self._view.turn_to_sender(
                 pool,
                 _headline_of_new_sender(before, sender),
@@ -154,14 +154,14 @@ class Session:
         )
         self._is_new = False
 
-    def _show_sender_progress(self, doing: str) -> None:
+    def _show_sender_progress_and_page_refusals(self, doing: str) -> None:
         """Says what is built, at the bottom of a terminal and on the page, and there what is refused, too."""
         follower, page = self._follower, self._page
         if doing or not follower.is_current:
             self._view.show_progress(doing)
         if page is not None:
-            is_of_before = self._view.last_report_exit_status_if_any is not None and not follower.is_current
-            page.mark_as_of_sender_before(
+            is_of_before = self._view.last_exit_status_with_outdated_as_fault is not None and not follower.is_current
+            page.mark_or_unmark_pages_of_sender_before(
                 f"the sender has changed; {follower.build_phase or follower.reason}" if is_of_before else ""
             )
             refusals = (_not_built_lines(follower.failure), self._refused_proof.lines)
@@ -189,9 +189,9 @@ class Session:
         sender.require_unchanged()
         return query_refusal_lines(claims, lambda: Program([program], self._stop))
 
-    def _end_runs_and_open_pool_of_sender(self, sender: LiveSender) -> LivePool:
+    def _reopen_pool_for_sender_checking_settings(self, sender: LiveSender) -> LivePool:
         """Begins runs of a sender in place of those of the one before."""
-        is_first = self._view.last_report_exit_status_if_any is None
+        is_first = self._view.last_exit_status_with_outdated_as_fault is None
         self._end_runs()
         start = starter_with_options(sender.regress.path, EXPLAIN_OPTIONS, BATCH_SIZE, self._stop)
         plain_start = starter_without_explanations(sender.regress.path, 0, 1, self._stop)

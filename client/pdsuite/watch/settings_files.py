@@ -1,4 +1,4 @@
-"""The files pdsuite.toml while they change: one that is refused keeps the settings that were good last."""
+"""The files pdsuite.toml while they change: each refusal is reported, and the settings that were good last stay."""
 
 from collections.abc import Callable, Iterable, Set
 from pathlib import Path
@@ -44,7 +44,7 @@ class SettingsFiles:
         for folder in folders:
             self.last_good_layer_of_file(Path(folder, CONFIG_FILE))
 
-    def unused_table_lines_to_print(self, held: Set[tuple[str, str]]) -> list[str]:
+    def unused_table_lines_to_print_unless_held(self, held: Set[tuple[str, str]]) -> list[str]:
         """The lines of tables whose scripts aren't there; those of `held`, by folder and name, are taken to be."""
         return [
             line

@@ -1,4 +1,4 @@
-"""The reports on a terminal while scripts are watched: no more than one looks through, in lines that fit."""
+"""The reports on a terminal while scripts are watched: the first in full, later ones of few rows, in lines that fit."""
 
 import textwrap
 import time
@@ -12,11 +12,11 @@ from pdsuite.output.styled_text import StyledText
 from pdsuite.reports.plain import PlainFormatter, totals_style
 from pdsuite.watch.change_report import (
     ChangeReport,
-    changed_outcomes,
-    render_script_entries,
     gone_paths,
     gone_row,
-    outcomes_with_new_row_or_explanation,
+    outcomes_with_changed_rows_passing_last,
+    outcomes_with_line_and_new_row_or_explanation,
+    render_script_entries,
     totals_of,
 )
 from pdsuite.watch.folder_moves import Move, Outcomes, folder_moves_between
@@ -59,7 +59,7 @@ class TerminalReport(ChangeReport):
         text = StyledText()
         for move in moves:
             text.append_text(_move_line(move, before, after))
-        rows = changed_outcomes(known, after)
+        rows = outcomes_with_changed_rows_passing_last(known, after)
         form = PlainFormatter(True)
         text.append_text(
             _first_rows_and_count_of_rest([form.row_and_warnings(it) for it in rows if not it.lets_run_pass])
@@ -69,7 +69,7 @@ class TerminalReport(ChangeReport):
 
     def changed_explanations(self, before: Outcomes, after: Outcomes, moves: Sequence[Move]) -> StyledText:
         """The explanations of a few scripts, and how many more there are."""
-        explained = outcomes_with_new_row_or_explanation(_outcomes_at_moved_paths(before, moves), after)
+        explained = outcomes_with_line_and_new_row_or_explanation(_outcomes_at_moved_paths(before, moves), after)
         text = self._wrap_to_width(render_script_entries(explained[:_MOST], False))
         left = len(explained) - _MOST
         return text.append(f"{left:,} more: {self._command}\n", "bold") if left > 0 else text
@@ -88,7 +88,7 @@ class TerminalReport(ChangeReport):
 
     def outdated_sender_notice(self, why: str) -> StyledText:
         """That the sender doesn't stand any more of which all rows are, and why, in lines that fit."""
-        lines = super().outdated_sender_notice(why).plain.splitlines()
+        lines = super().outdated_sender_notice(why).text_without_styles.splitlines()
         return StyledText([(f"{wrap_with_hanging_indent(line, self._line_width())}\n", "dim") for line in lines])
 
     def _line_width(self) -> int:

@@ -34,7 +34,7 @@ class ShownScripts:
 class EarlierSender(Protocol):
     """A sender with which the one that answers is compared."""
 
-    def shown_or_newly_run_outcomes(self, shown: ShownScripts, now: ShownScripts) -> Outcomes:
+    def kept_or_new_outcomes_of_same_scripts(self, shown: ShownScripts, now: ShownScripts) -> Outcomes:
         """Its outcomes of the scripts as they are now: those that were shown, or those of runs of its own."""
 
     def programs(self) -> Programs | None:
@@ -47,7 +47,7 @@ class EarlierBuild:
 
     sender: Programs | None
 
-    def shown_or_newly_run_outcomes(self, shown: ShownScripts, now: ShownScripts) -> Outcomes:
+    def kept_or_new_outcomes_of_same_scripts(self, shown: ShownScripts, now: ShownScripts) -> Outcomes:
         return {path: it for path, it in shown.outcomes.items() if shown.wanted.get(path) == now.wanted.get(path)}
 
     def programs(self) -> Programs | None:
@@ -64,7 +64,7 @@ class BaseSender:
         self._note = note
         self._known: dict[str, tuple[WantedScript, ScriptOutcome]] = {}
 
-    def shown_or_newly_run_outcomes(self, shown: ShownScripts, now: ShownScripts) -> Outcomes:
+    def kept_or_new_outcomes_of_same_scripts(self, shown: ShownScripts, now: ShownScripts) -> Outcomes:
         self._known = {path: it for path, it in self._known.items() if now.wanted.get(path) == it[0]}
         left = {path: it for path, it in now.wanted.items() if path not in self._known}
         self._known |= {it.path: (left[it.path], it) for it in self._run_scripts(left)}
@@ -97,11 +97,11 @@ def find_turned_scripts(
     note: Callable[[str], None],
 ) -> list[ComparedScript]:
     """The scripts whose rows another sender turned, in the order of paths; `programs` are those that answer now."""
-    old = before.shown_or_newly_run_outcomes(shown, now)
+    old = before.kept_or_new_outcomes_of_same_scripts(shown, now)
     pairs = [(old[path], it) for path, it in now.outcomes.items() if path in old and old[path].row != it.row]
     recorders = [_recorder_if_program_exists(it, stop, note) for it in (before.programs(), programs)]
     return [
-        _compared_script(index, one, other, now.wanted.get(other.path), recorders)
+        _turned_script_with_divergence_if_known(index, one, other, now.wanted.get(other.path), recorders)
         for index, (one, other) in enumerate(pairs)
     ]
 
@@ -111,7 +111,7 @@ def _recorder_if_program_exists(programs: Programs | None, stop: Stop, note: Cal
     return None if record is None or not record.exists() else Recorder(stop, note, record)
 
 
-def _compared_script(
+def _turned_script_with_divergence_if_known(
     index: int,
     one: ScriptOutcome,
     other: ScriptOutcome,
@@ -127,7 +127,7 @@ def _divergence_of_recordings(
 ) -> Divergence | None:
     """Where the recordings of a script part; None where one is missing."""
     texts = [
-        it.record_script_or_note_reason(path, wanted.text.octets, wanted.settings).text
+        it.record_script_or_return_and_note_reason(path, wanted.text.octets, wanted.settings).text
         for it in recorders
         if it is not None
     ]

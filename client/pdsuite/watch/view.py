@@ -11,7 +11,12 @@ from pdsuite.output.styled_text import StyledText
 from pdsuite.programs.lookup import SenderChangedError
 from pdsuite.programs.verdict import Row, Verdict
 from pdsuite.run.outcomes import ScriptOutcome
-from pdsuite.watch.change_report import ChangeReport, changed_outcomes, mark_as_of_sender_before, totals_of
+from pdsuite.watch.change_report import (
+    ChangeReport,
+    mark_as_of_sender_before,
+    outcomes_with_changed_rows_passing_last,
+    totals_of,
+)
 from pdsuite.watch.folder_moves import Move, Outcomes
 from pdsuite.watch.plan_changes import WantedScript
 from pdsuite.watch.turned_scripts import ShownScripts
@@ -64,7 +69,7 @@ class View:
         self._compare: Compare | None = None
 
     @property
-    def last_report_exit_status_if_any(self) -> int | None:
+    def last_exit_status_with_outdated_as_fault(self) -> int | None:
         """The exit status of the last report, if there was one: 2 where its sender doesn't stand any more."""
         return self._status if self._status is None or self._is_current else _FAULT
 
@@ -135,13 +140,13 @@ class View:
         """Shows what changed: the rows at once, their explanations once these are there; at first all in one."""
         outcomes = self._explain_syntax_faults(outcomes, wanted)
         check()
-        before = self._outcomes_shown_of_current_sender()
+        before = self._shown_outcomes_voiding_outdated_rows()
         rows, moves = StyledText(), self._change_report.folder_moves_if_report_shows_them(
             before, outcomes, self._wanted, wanted
         )
         if self._status is not None:
             rows = self._change_report.render_changed_and_gone_rows(before, outcomes, moves)
-        if rows.plain:
+        if rows.text_without_styles:
             self._screen.show(
                 self._report_head_with_sender_notice().append_text(self._text_marked_unless_sender_current(rows))
             )
@@ -159,8 +164,10 @@ class View:
             # The rows were shown; their explanations may be another program's.
             self.outcomes, self._wanted = outcomes, wanted
             raise
-        self._show_explanations_totals_and_note_state(before, after, bool(rows.plain), moves, begin, turned or ())
-        self._keep_turned_scripts(turned, after, wanted)
+        self._show_explanations_totals_and_note_state(
+            before, after, bool(rows.text_without_styles), moves, begin, turned or ()
+        )
+        self._keep_new_or_still_same_turned_scripts(turned, after, wanted)
         self._wanted = wanted
 
     def _explain_syntax_faults(self, outcomes: Outcomes, wanted: Wanted) -> Outcomes:
@@ -180,7 +187,9 @@ class View:
         self._compare = None
         return found
 
-    def _keep_turned_scripts(self, found: Sequence[ComparedScript] | None, after: Outcomes, wanted: Wanted) -> None:
+    def _keep_new_or_still_same_turned_scripts(
+        self, found: Sequence[ComparedScript] | None, after: Outcomes, wanted: Wanted
+    ) -> None:
         """Keeps the scripts that turned: those that were found, or of those before the ones that are as they were."""
         if found is None:
             same = [it for it in self.turned if it.path in after and after[it.path].row == it.after.row]
@@ -208,7 +217,7 @@ class View:
             others = {path: it for path, it in after.items() if path not in shown_paths}
             blocks = compared.append_text(self._change_report.changed_explanations(before, others, moves))
             head = StyledText() if has_changed else self._report_head_with_sender_notice()
-            if has_changed or blocks.plain or self._turn is not None:
+            if has_changed or blocks.text_without_styles or self._turn is not None:
                 foot = self._change_report.totals_line(after, time.monotonic() - begin)
                 self._screen.show(head.append_text(self._text_marked_unless_sender_current(blocks.append_text(foot))))
         if not after and (self.outcomes or self._status is None):
@@ -223,7 +232,7 @@ class View:
         head = self._change_report.time_of_day_head_if_any()
         return head if self._turn is None else head.append_text(self._change_report.new_sender_notice(self._turn))
 
-    def _outcomes_shown_of_current_sender(self) -> Outcomes:
+    def _shown_outcomes_voiding_outdated_rows(self) -> Outcomes:
         """The outcomes that were shown; where a sender stands, no row of the one before counts as shown."""
         if not self._is_current:
             return self.outcomes
@@ -234,7 +243,7 @@ class View:
         if self._is_current:
             self._marked.clear()
         else:
-            self._marked.update(it.path for it in changed_outcomes(before, outcomes))
+            self._marked.update(it.path for it in outcomes_with_changed_rows_passing_last(before, outcomes))
 
     def _text_marked_unless_sender_current(self, text: StyledText) -> StyledText:
         """A part of a report, which says of which sender it is where that doesn't stand."""

@@ -45,7 +45,7 @@ class Update:
     torn: frozenset[str]
 
 
-def read_watched_file_returning_whether_torn(
+def read_watched_file_marking_unclosed_as_torn(
     found: ScriptFile, before: WatchedFile | None, is_closed: bool
 ) -> WatchedFile:
     """Reads a script's file. If nobody says that it was closed, who wrote it a moment ago may still be writing."""
@@ -64,7 +64,7 @@ def reread_changed_watched_files(
     for it in scripts:
         known = before.get(it.path)
         is_closed = (it.folder, it.name) in closed
-        files[it.path] = _known_if_unchanged(it, known) or read_watched_file_returning_whether_torn(
+        files[it.path] = _known_if_unchanged(it, known) or read_watched_file_marking_unclosed_as_torn(
             it, known, is_closed
         )
     return files

@@ -1,0 +1,65 @@
+"""The goal of a search: rules of the sender that one event comes to, and facts of the state after that event."""
+
+from collections.abc import Sequence
+from dataclasses import dataclass
+from fnmatch import fnmatchcase
+
+from pdsuite.compare.divergence import parse_played_events
+from pdsuite.programs.protocol import RulesByLine
+from pdsuite.programs.recorder import Recording
+from pdsuite.search.coverage import StatePattern, parse_state_pattern_if_valid
+from pdsuite.search.find import Find, FindTest, ReachesTest, configured_script_of_find
+from pdsuite.search.inputs import Inputs
+from pdsuite.search.oracle import RulesOracle
+
+_RULE = "rule"
+
+
+@dataclass(frozen=True)
+class SearchGoal:
+    """The names of rules that one event comes to, which may have `*` and `?`, and the state after it."""
+
+    rules: tuple[str, ...]
+    state: StatePattern
+
+    def test_by_oracle(self, oracle: RulesOracle) -> FindTest:
+        """The test of which inputs reach it. Only if there are rules the oracle is queried."""
+        if not self.rules:
+            return ReachesTest(self.state)
+        oracle.require_that_rules_are_listed()
+        return ComesToRulesTest(self, oracle)
+
+
+def parse_goal_if_valid(text: str) -> SearchGoal | None:
+    """The goal that a text says, if it says one: `rule:NAME` is a rule, any other `NAME:VALUE` a fact of the state."""
+    words = parse_state_pattern_if_valid(text)
+    if words is None:
+        return None
+    rules = tuple(value for name, value in words.facts if name == _RULE)
+    return SearchGoal(rules, StatePattern(tuple(it for it in words.facts if it[0] != _RULE)))
+
+
+@dataclass(frozen=True)
+class ComesToRulesTest:
+    """Finds inputs whose recording has an event that comes to the rules of a goal and reaches its state."""
+
+    goal: SearchGoal
+    oracle: RulesOracle
+
+    def find_or_none_for_each_input(
+        self, inputs: Sequence[Inputs], recordings: Sequence[Recording]
+    ) -> list[Find | None]:
+        # A script is run twice for its rules, so only those are that reach the state.
+        reached = ReachesTest(self.goal.state).find_or_none_for_each_input(inputs, recordings)
+        scripts = [configured_script_of_find(it) for it in reached if it is not None]
+        listed = iter(self.oracle.list_rules_of_scripts(scripts))
+        return [it if it is not None and self._is_met_by(it, next(listed)) else None for it in reached]
+
+    def _is_met_by(self, find: Find, rules: RulesByLine) -> bool:
+        """Whether an event of a recording, which has a line for each, comes to all rules and reaches the state."""
+        lines = {line for line, names in rules.items() if self._has_all_rules(names)}
+        played = enumerate(parse_played_events(find.recording), find.inputs.header_line_count + 1)
+        return bool(lines) and any(line in lines and self.goal.state.fits_state(it.state) for line, it in played)
+
+    def _has_all_rules(self, names: Sequence[str]) -> bool:
+        return all(any(fnmatchcase(name, rule) for name in names) for rule in self.goal.rules)
