@@ -40,7 +40,7 @@ def rows_of_report(report: Any) -> Iterator[tuple[str, Row]]:
         yield it["path"], (" ".join(str(word) for word in words if word is not None), it.get("line"))
 
 
-def turned_scripts(compared: Any) -> dict[str, tuple[Row, Row]]:
+def scripts_listed_as_turned(compared: Any) -> dict[str, tuple[Row, Row]]:
     """The scripts that `compare` lists as turned, with their rows."""
     turned = [it for it in compared["scripts"] if it["kind"] == "turned"]
     return {it["path"]: (row_of_side(it["before"]), row_of_side(it["after"])) for it in turned}
@@ -66,7 +66,7 @@ def main() -> int:
             )
             seconds = time.monotonic() - begin
             after = dict(rows_of_report(report_of_sender(str(tree), options.suite)))
-            listed = turned_scripts(compared)
+            listed = scripts_listed_as_turned(compared)
             turned = {path: (before[path], row) for path, row in after.items() if before[path] != row}
             is_same = bool(listed) and listed == turned
             is_well = is_well and is_same

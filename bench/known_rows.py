@@ -21,7 +21,7 @@ def make_scripts_fail(scripts: list[Path]) -> None:
         path.write_bytes(path.read_bytes() + BAD)
 
 
-def write_expectations(scripts: list[Path], are_known: bool) -> None:
+def write_or_remove_expectations(scripts: list[Path], are_known: bool) -> None:
     """Writes the files that say which rows are expected, or takes them away."""
     tables: dict[Path, list[str]] = {}
     for place, path in enumerate(scripts):
@@ -52,9 +52,9 @@ def main() -> int:
     without: list[tuple[float, float]] = []
     known: list[tuple[float, float]] = []
     for _ in range(TIMES):
-        write_expectations(failing, False)
+        write_or_remove_expectations(failing, False)
         without.append(time_run(top, suite, 1))
-        write_expectations(failing, True)
+        write_or_remove_expectations(failing, True)
         known.append(time_run(top, suite, 0))
     (seconds, work), (others, other_work) = [
         (min(it[0] for it in each), min(it[1] for it in each)) for each in (known, without)

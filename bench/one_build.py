@@ -91,7 +91,7 @@ def function_bodies_in(text: str) -> Iterator[Body]:
 def build_with_all_mutants(tree: Path, folder: Path) -> Path:
     """Builds a tree with all mutants in a folder; the program serves as both."""
     kit = kit_or_raise_unknown_kit_error()
-    building.make_entry_module_by_kit_reader(kit, tree, folder, print_no_phase)
+    building.read_sources_by_kit_into_cache_entry_folder(kit, tree, folder, print_no_phase)
     module = folder / "module.ll"
     source = str(folder / "entry/module.bc")
     command = [str(kit.compiler), "-x", "ir", "-S", "-emit-llvm", "-O0", source, "-o", str(module)]
@@ -103,7 +103,9 @@ def build_with_all_mutants(tree: Path, folder: Path) -> Path:
     given = (folder / "entry/arguments").read_text().splitlines()
     compile_command = [it.replace("module.bc", "module.ll") for it in optimised_compiler_command(kit, given)]
     building.run_kit_tool_or_raise_no_build(compile_command, folder, lambda: print_no_phase(building.COMPILING))
-    building.run_kit_tool_or_raise_no_build(building.fault_handler_compile_command(kit, folder / "handler.o"), folder, lambda: None)
+    building.run_kit_tool_or_raise_no_build(
+        building.fault_handler_compile_command(kit, folder / "handler.o"), folder, lambda: None
+    )
     program = folder / "program"
     building.run_kit_tool_or_raise_no_build(
         linker_command(kit, (folder / "module.o", folder / "handler.o"), program), folder, lambda: None

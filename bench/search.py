@@ -26,14 +26,19 @@ from one_build import apply_all_mutants, build_with_all_mutants, programs_with_m
 
 sys.path.insert(0, str(TOP / "client"))
 
-from pdsuite.compare.affected import names_changed_between_trees  # noqa: E402
+from pdsuite.compare.affected import changed_functions_and_constants_of_trees  # noqa: E402
 from pdsuite.compare.senders import Sender  # noqa: E402
 from pdsuite.programs.verdict import Verdict  # noqa: E402
 from pdsuite.search.candidates import CandidateLists  # noqa: E402
 from pdsuite.search.find import DiffersTest, FailsTest  # noqa: E402
 from pdsuite.search.finished_script import least_script_of_find  # noqa: E402
-from pdsuite.search.initial_inputs import record_initial_inputs, suite_scripts_of_tree  # noqa: E402
-from pdsuite.search.oracle import ConfiguredScript, ProgramOracle, SenderOracle, input_counts_of_successive_queries  # noqa: E402
+from pdsuite.search.initial_inputs import record_corpus_without_fixed_settings, suite_scripts_of_tree  # noqa: E402
+from pdsuite.search.oracle import (  # noqa: E402
+    ConfiguredScript,
+    ProgramOracle,
+    SenderOracle,
+    input_counts_of_successive_queries,
+)
 from pdsuite.search.relevance import emphasis_of_changes  # noqa: E402
 from pdsuite.search.save import save_script_and_settings  # noqa: E402
 from pdsuite.search.search import Search  # noqa: E402
@@ -63,14 +68,14 @@ class SearchBench:
     options: argparse.Namespace
     stop: Stop
 
-    def search_mutant(self, mutant: Mutant, number: int, folder: Path) -> tuple[bool, bool]:
+    def search_mutant_and_answer_seen_and_found(self, mutant: Mutant, number: int, folder: Path) -> tuple[bool, bool]:
         """Searches a mutant; whether a script of the suite sees it, and whether it was found."""
         before = self._oracle_of_mutant(0, folder / "before")
         after = self._oracle_of_mutant(number, folder / "after")
-        is_seen = any(it.verdict is not Verdict.PASS for it in after.rows(self.scripts))
+        is_seen = any(it.verdict is not Verdict.PASS for it in after.run_scripts_for_rows(self.scripts))
         tree = copy_tree_with_mutant(folder / "tree", mutant)
-        emphasis = emphasis_of_changes(names_changed_between_trees(self.base, tree), frozenset())
-        begun = record_initial_inputs(list(self.scripts), before, frozenset())
+        emphasis = emphasis_of_changes(changed_functions_and_constants_of_trees(self.base, tree), frozenset())
+        begun = record_corpus_without_fixed_settings(list(self.scripts), before, frozenset())
         drawing = CandidateLists(self.options.seed, input_counts_of_successive_queries(), emphasis, begun)
         seconds = 0.0 if self.options.as_found else SECONDS
         search = Search(before, FailsTest(after), DiffersTest(after), drawing, seconds, self.options.inputs)
@@ -90,7 +95,7 @@ class SearchBench:
         return ProgramOracle(sender, self.stop)
 
 
-def copy_suite(place: Path) -> None:
+def copy_suite_as_before_these_mutants(place: Path) -> None:
     """This tree's suite, without what was written for these mutants."""
     shutil.copytree(TOP / SUITE, place, ignore=shutil.ignore_patterns(*(f"{it}.pkt" for it in LATER)))
     for path in (path for name in LONGER for path in place.rglob(f"{name}.pkt")):
@@ -109,7 +114,7 @@ def main() -> int:
     mutants = parse_mutants_of_text(MUTANTS.read_text(), True, ())
     with tempfile.TemporaryDirectory(prefix="search-") as folder, Stop() as stop:
         base = copy_tree_with_mutant(Path(folder, "base"))
-        copy_suite(base / SUITE)
+        copy_suite_as_before_these_mutants(base / SUITE)
         program = options.program or Path(folder, "program")
         if not program.exists():
             tree, work = copy_tree_with_mutant(Path(folder, "tree")), Path(folder, "build")
@@ -122,7 +127,7 @@ def main() -> int:
             if not options.names or mutant.name in options.names:
                 work = Path(folder, mutant.name)
                 work.mkdir()
-                found.append(bench.search_mutant(mutant, number, work))
+                found.append(bench.search_mutant_and_answer_seen_and_found(mutant, number, work))
                 shutil.rmtree(work)
     live = [is_found for is_seen, is_found in found if not is_seen]
     print(f"total {len(found)} seen by the suite {len(found) - len(live)} others {len(live)} found {sum(live)}")

@@ -63,7 +63,11 @@ class SenderTree:
         subprocess.run(["git", "-c", "advice.detachedHead=false", "clone", "-q", TOP, self.top], check=True)
         subprocess.run(["cp", "-R", self.top / "examples/suite", self.top / SUITE], check=True)
         mutants = parse_mutants_of_text(RULES.read_text(), folders=())
-        rules = {it.name: dict(files_and_texts_changed_by_mutant(it, self.top)) for it in mutants if it.name in names or not names}
+        rules = {
+            it.name: dict(files_and_texts_changed_by_mutant(it, self.top))
+            for it in mutants
+            if it.name in names or not names
+        }
         own = {path: path.read_text() for texts in rules.values() for path in texts}
         own[self.top / SOURCE] = (self.top / SOURCE).read_text()
         self.texts = {OWN: own, **{name: {**own, **texts} for name, texts in rules.items()}}
@@ -88,7 +92,7 @@ class SenderTree:
         printed = subprocess.run(command, cwd=self.top, capture_output=True, text=True).stdout
         return {it[1]: row_of_match(it) for it in map(ROW.match, printed.splitlines()) if it}
 
-    def rules_standing(self, since: float, until: float) -> set[str]:
+    def rules_that_stood_between(self, since: float, until: float) -> set[str]:
         """The rules that stood at some time between two moments."""
         before = [rule for saved, rule in self.saves if saved <= since]
         return {*before[-1:], *(rule for saved, rule in self.saves if since < saved <= until)}
@@ -126,11 +130,11 @@ class WatchRun:
     def wait_for_line(self, since: float, *begins: str) -> float:
         """Waits for a line with one of these beginnings that comes after a moment; its moment."""
 
-        def found() -> Iterator[float]:
+        def moments_of_such_lines() -> Iterator[float]:
             return (moment for moment, line in self.lines if moment >= since and line.startswith(begins))
 
-        self.wait_until(lambda: next(found(), None) is not None)
-        return next(found())
+        self.wait_until(lambda: next(moments_of_such_lines(), None) is not None)
+        return next(moments_of_such_lines())
 
     def terminate(self) -> None:
         self._process.terminate()
@@ -158,7 +162,7 @@ class WatchRun:
             self._since = moment
 
 
-def measure_delays(tree: SenderTree, watching: WatchRun) -> None:
+def print_delays_of_first_rows_after_saves(tree: SenderTree, watching: WatchRun) -> None:
     """Says how long after a save of each rule, and of a script, the first row comes."""
     script = tree.top / SUITE / SAVED[0]
     for rule in [it for it in tree.texts if it not in (OWN, WRONG)] + [OWN]:
@@ -194,7 +198,9 @@ def without_saved_scripts(rows: Rows) -> Rows:
     return {path: row for path, row in rows.items() if path.removeprefix(f"{SUITE}/") not in SAVED}
 
 
-def storm_with_saves(tree: SenderTree, watching: WatchRun, saves: int, seed: int, most: int) -> None:
+def save_at_random_until_rows_match_a_run(
+    tree: SenderTree, watching: WatchRun, saves: int, seed: int, most: int
+) -> None:
     """Saves rules, settings and scripts at random, and waits until the rows that stand are those of a run.
 
     A save of a rule has at most so many lines that make its build a new one.
@@ -225,7 +231,7 @@ def are_reports_right(tree: SenderTree, watching: WatchRun, known: Mapping[str, 
     """Whether each report that counts as current has the rows of a rule that stood while it was made."""
     is_well = True
     for since, moment, rows in watching.reports:
-        standing = tree.rules_standing(since, moment)
+        standing = tree.rules_that_stood_between(since, moment)
         shown = [rule for rule, each in known.items() if without_saved_scripts(rows) in each]
         if not standing.intersection(shown):
             print(f"a report shows {' or '.join(shown) or 'other rows'}, where {' or '.join(sorted(standing))} stands")
@@ -249,9 +255,9 @@ def main() -> int:
         watching = WatchRun(tree.top)
         try:
             watching.wait_for_line(0.0, "total ")
-            measure_delays(tree, watching)
+            print_delays_of_first_rows_after_saves(tree, watching)
             known = rows_of_each_rule(tree)
-            storm_with_saves(tree, watching, options.saves, options.seed, 0 if options.kept else 1)
+            save_at_random_until_rows_match_a_run(tree, watching, options.saves, options.seed, 0 if options.kept else 1)
         finally:
             watching.terminate()
         is_well = are_reports_right(tree, watching, known)

@@ -27,7 +27,7 @@ def save_script(path: Path, text: bytes, is_beside: bool) -> float:
     return time.monotonic()
 
 
-def await_report(watching: "subprocess.Popen[bytes]") -> tuple[float, float]:
+def await_first_row_and_report_end(watching: "subprocess.Popen[bytes]") -> tuple[float, float]:
     """The moments at which the first row of a report and its last line came."""
     assert watching.stdout is not None
     first = 0.0
@@ -48,7 +48,7 @@ def measure_saves(watching: "subprocess.Popen[bytes]", paths: list[Path], saves:
         middle = len(lines) // 2
         text = b"".join([*lines[:middle], BAD, *lines[middle:]])
         saved = save_script(path, text, is_beside=number % 2 == 1)
-        first, last = await_report(watching)
+        first, last = await_first_row_and_report_end(watching)
         rows.append(first - saved)
         reports.append(last - saved)
     for what, times in (("a row", rows), ("its report", reports)):
@@ -56,7 +56,7 @@ def measure_saves(watching: "subprocess.Popen[bytes]", paths: list[Path], saves:
         print(f"{saves} saves: {what} comes {middle_time:.1f} ms after the save, the median; {worst:.1f} ms at worst")
 
 
-def measure_idle(watching: "subprocess.Popen[bytes]", seconds: float) -> bool:
+def measure_whether_idle_takes_too_much(watching: "subprocess.Popen[bytes]", seconds: float) -> bool:
     """Lets it be; whether it takes more than it may."""
     time.sleep(SETTLING)
     begin, before = time.monotonic(), processor_seconds_of(watching.pid)
@@ -79,11 +79,11 @@ def main() -> None:
     environment = {**os.environ, "PYTHONUNBUFFERED": "1"}
     watching = subprocess.Popen([f"{top}/pdsuite", "watch", suite], stdout=subprocess.PIPE, env=environment)
     begin = time.monotonic()
-    await_report(watching)
+    await_first_row_and_report_end(watching)
     print(f"{len(paths)} scripts: the first report came {time.monotonic() - begin:.2f} s after the start")
     is_over = False
     if what == "idle":
-        is_over = measure_idle(watching, float(count))
+        is_over = measure_whether_idle_takes_too_much(watching, float(count))
     else:
         measure_saves(watching, paths, int(count))
     watching.terminate()

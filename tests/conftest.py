@@ -69,7 +69,7 @@ class RowTest(pytest.Item):
         self.case = case
 
     def runtest(self) -> None:
-        result = row_runner_of(self.config).result_of(self)
+        result = row_runner_of(self.config).run_table_of_row_once_and_get_result(self)
         if result.fault:
             raise RowFailure(result.fault)
         if result.is_unanswered:
@@ -89,26 +89,32 @@ class SessionRows:
         self.programs = programs
         self.results: dict[str, RowResult] = {}
 
-    def result_of(self, item: RowTest) -> RowResult:
+    def run_table_of_row_once_and_get_result(self, item: RowTest) -> RowResult:
         """The result of a row; all rows of its table that are to be tested are run together."""
         if item.nodeid not in self.results:
             together = [it for it in rows_of_session(item.session) if it.parent is item.parent]
             self.keep_results(
-                together, check_selection((group_of_row(item), [it.case for it in together]), self.programs)
+                together, check_selection((case_group_of_row(item), [it.case for it in together]), self.programs)
             )
         return self.results[item.nodeid]
 
     def keep_results(self, items: Sequence[RowTest], results: Sequence[RowResult]) -> None:
         self.results.update(zip((it.nodeid for it in items), results))
 
-    def are_programs_built(self, session: pytest.Session) -> bool:
+    def are_programs_of_session_rows_built(self, session: pytest.Session) -> bool:
         """Whether all programs of the rows of a session are built."""
-        return self.programs.are_built([group_of_row(items[0]) for items in tables_of_session(session)])
+        return self.programs.are_all_built_for(
+            [case_group_of_row(items[0]) for items in rows_of_session_by_table(session)]
+        )
 
     def run_all_rows(self, session: pytest.Session) -> None:
         """Runs all rows, after one build of each program that isn't built, or a few."""
-        selections = [(group_of_row(items[0]), [it.case for it in items]) for items in tables_of_session(session)]
-        for items, results in zip(tables_of_session(session), check_selections_in_step(selections, self.programs)):
+        selections = [
+            (case_group_of_row(items[0]), [it.case for it in items]) for items in rows_of_session_by_table(session)
+        ]
+        for items, results in zip(
+            rows_of_session_by_table(session), check_selections_in_step(selections, self.programs)
+        ):
             self.keep_results(items, results)
 
 
@@ -116,7 +122,7 @@ ROW_RUNNER = pytest.StashKey[SessionRows]()
 STATUS = pytest.StashKey[int]()
 
 
-def group_of_row(item: RowTest) -> CaseGroup:
+def case_group_of_row(item: RowTest) -> CaseGroup:
     assert isinstance(item.parent, RowTable)
     return item.parent.group
 
@@ -125,7 +131,7 @@ def rows_of_session(session: pytest.Session) -> list[RowTest]:
     return [it for it in session.items if isinstance(it, RowTest)]
 
 
-def tables_of_session(session: pytest.Session) -> list[list[RowTest]]:
+def rows_of_session_by_table(session: pytest.Session) -> list[list[RowTest]]:
     """The rows of a session, table by table."""
     tables: dict[object, list[RowTest]] = {}
     for item in rows_of_session(session):
@@ -194,7 +200,7 @@ def pytest_collect_file(file_path: Path, parent: pytest.Collector) -> RowFile | 
 def pytest_collection_finish(session: pytest.Session) -> None:
     """Before the first test, runs the rows that are run at once; of the processes of `-n` the first one does."""
     config, runner = session.config, row_runner_of(session.config)
-    if config.option.collectonly or runner.are_programs_built(session):
+    if config.option.collectonly or runner.are_programs_of_session_rows_built(session):
         return
     if not is_xdist_worker(config):
         with config.pluginmanager.getplugin("capturemanager").global_and_fixture_disabled():

@@ -14,7 +14,7 @@ from pathlib import Path
 sys.path.insert(0, str(Path(__file__).resolve().parent))
 
 from drawn.drawing import Amount  # noqa: E402
-from harness.random_rows import PROGRAMS, RowLists, encode_lines, replace_stored_output  # noqa: E402
+from harness.random_rows import PROGRAMS, RowLists, encode_lines, stdout_for_drawn_in_place_of_stored_rows  # noqa: E402
 from harness.tables import TOP  # noqa: E402
 
 
@@ -28,20 +28,20 @@ class StoredRows:
     seed: int
 
     @property
-    def lists(self) -> RowLists:
+    def row_lists_of_program_and_kind(self) -> RowLists:
         return PROGRAMS[self.program][self.kind]
 
     @property
     def rows_file(self) -> Path:
-        return TOP / "crates" / self.program / "data" / self.lists.file
+        return TOP / "crates" / self.program / "data" / self.row_lists_of_program_and_kind.file
 
     @property
     def output_file(self) -> Path:
         """The file that has the whole wanted output of the program."""
         return TOP / "crates" / self.program / "stdout"
 
-    def draw_rows(self) -> Iterator[str]:
-        return self.lists.drawn(self.seed, Amount(self.count))
+    def rows_drawn_from_seed(self) -> Iterator[str]:
+        return self.row_lists_of_program_and_kind.drawn(self.seed, Amount(self.count))
 
 
 STORED = (
@@ -53,9 +53,11 @@ STORED = (
 
 def store_rows(it: StoredRows) -> None:
     """Writes the rows, and their output in place of that of the rows before."""
-    before, after = it.rows_file.read_text().splitlines(), list(it.draw_rows())
-    output = replace_stored_output(
-        it.output_file.read_bytes(), encode_lines(it.lists.output(before)), encode_lines(it.lists.output(after))
+    before, after = it.rows_file.read_text().splitlines(), list(it.rows_drawn_from_seed())
+    output = stdout_for_drawn_in_place_of_stored_rows(
+        it.output_file.read_bytes(),
+        encode_lines(it.row_lists_of_program_and_kind.output(before)),
+        encode_lines(it.row_lists_of_program_and_kind.output(after)),
     )
     it.rows_file.write_bytes(encode_lines(after))
     it.output_file.write_bytes(output)

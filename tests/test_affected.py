@@ -13,7 +13,7 @@ from affected_sections import (  # noqa: E402
     AffectedParagraph,
     affected_paragraphs_and_unmatched_items,
     citations_in,
-    citing_paragraphs_in,
+    paragraphs_citing_any_section,
 )
 from harness.calls import ProgramCall  # noqa: E402
 
@@ -138,7 +138,7 @@ def test_rows_of_the_table_beside_linux_are_named_too(tmp_path: Path) -> None:
 
 def test_what_a_paragraph_cites_for_those_below_it_ends_at_the_next_heading() -> None:
     page = f"{PAGE}\n## Three\n- Own. (Steps 3 and 4)\n\nAs RFC 3, section 6, has it.\n- Last. (Step 1)\n"
-    found = [(it.heading, str(it.cited[0])) for it in citing_paragraphs_in(page)]
+    found = [(it.heading, str(it.cited[0])) for it in paragraphs_citing_any_section(page)]
     assert found[2:] == [("Two", "RFC 2, section 5")] * 2 + [("Three", "RFC 3, section 6")] * 2
 
 

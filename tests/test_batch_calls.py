@@ -76,4 +76,4 @@ def test_calls_that_come_to_no_end_say_why(
     process = subprocess.Popen(["sh", "-c", ends])
     process.wait()
     calls = SourceCalls("a", {}, tmp_path, process, begun=time.monotonic())
-    assert calls.has_ended() and capsys.readouterr().out.splitlines()[-1] == last
+    assert calls.has_ended_printing_time_and_failure() and capsys.readouterr().out.splitlines()[-1] == last

@@ -12,7 +12,7 @@ TOP = Path(__file__).resolve().parents[1]
 sys.path.insert(0, str(TOP / "tools"))
 
 import copies  # noqa: E402
-from copies import Copy, wait_until_stamps_of_copy_settle, copy_to_trees_returning_checksums  # noqa: E402
+from copies import Copy, record_stamps_once_later_changes_show, copy_to_trees_returning_checksums  # noqa: E402
 from source_sums import Unreadable  # noqa: E402
 
 CRATES = ("low", "top")
@@ -97,8 +97,8 @@ def test_a_copy_that_changes_while_it_is_made_is_refused(
 ) -> None:
     def late(top: Path, crates: tuple[str, ...]) -> Copy:
         change(top)
-        return wait_until_stamps_of_copy_settle(top, crates)
+        return record_stamps_once_later_changes_show(top, crates)
 
-    monkeypatch.setattr(copies, "wait_until_stamps_of_copy_settle", late)
+    monkeypatch.setattr(copies, "record_stamps_once_later_changes_show", late)
     with pytest.raises(Unreadable, match="copy has changed while it was made"):
         copy_to_trees_returning_checksums(tree, CRATES, [tmp_path / "copy"])

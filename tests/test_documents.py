@@ -5,10 +5,10 @@ from pathlib import Path
 
 import pytest
 
-from documents import main
+from documents import made, main
 from documents.pages import Page
 from documents.shown import commands_shown_in
-from documents.walking import run_shown_commands
+from documents.walking import run_shown_commands_and_yield_each_step
 
 TOP = Path(__file__).resolve().parents[1]
 PAGE = "# a\n\n```console\n$ echo a\na\n$ echo b\nc\n```\n\n```console slow\n$ echo d\n```\n"
@@ -21,7 +21,7 @@ def results_of_commands(text: str, why: str | None, monkeypatch: pytest.MonkeyPa
         folder.mkdir()
         return why
 
-    monkeypatch.setattr(main, "copy_built_tree", built_tree)
+    monkeypatch.setattr(main, "copy_tree_with_programs_or_say_unbuilt", built_tree)
     return list(main.test_commands([], Page(Path("/"), Path("a.md"), text)))
 
 
@@ -38,15 +38,17 @@ def test_commands_fail_where_a_program_is_not_built(monkeypatch: pytest.MonkeyPa
 
 
 def test_what_watch_prints_of_a_build_is_left_to_who_walks_without_proofs(tmp_path: Path) -> None:
-    page = "```console follow\n$ sh -c 'echo a; sleep 60'\na\n```\n\n```console follow\nb\n```\n"
+    page = "```console follow\n$ sh -c 'echo a; exec sleep 60'\na\n```\n\n```console follow\nb\n```\n"
     steps = list(commands_shown_in(page))
-    assert list(run_shown_commands(steps, tmp_path, 0.5, is_proved=True)) == []
-    assert [it.printed_instead for it in run_shown_commands(steps, tmp_path, 0.5, is_proved=False)] == [None, ""]
+    assert list(run_shown_commands_and_yield_each_step(steps, tmp_path, 0.5, is_proved=True)) == []
+    assert [
+        it.printed_instead for it in run_shown_commands_and_yield_each_step(steps, tmp_path, 0.5, is_proved=False)
+    ] == [None, ""]
 
 
 def test_the_line_unproved_of_what_watch_prints_does_not_count(tmp_path: Path) -> None:
     page = "```console watch\n$ sh -c 'echo pdsuite: unproved: b; echo a'\na\n```\n"
-    (step,) = run_shown_commands(list(commands_shown_in(page)), tmp_path, 0.5, is_proved=False)
+    (step,) = run_shown_commands_and_yield_each_step(list(commands_shown_in(page)), tmp_path, 0.5, is_proved=False)
     assert step.printed_instead is None
 
 
@@ -71,6 +73,18 @@ def test_the_last_line_counts(
     monkeypatch.setattr(main, "test_pages", lambda files, pages: iter(tests))
     assert main.main([]) == status
     assert capsys.readouterr().out.splitlines()[-1] == last
+
+
+@pytest.mark.parametrize(("old", "new"), [("", "b\n"), ("a\n", "b\n"), ("a\n", "")])
+def test_of_a_file_the_part_between_its_marks_alone_is_written(
+    old: str, new: str, tmp_path: Path, monkeypatch: pytest.MonkeyPatch
+) -> None:
+    page = "a\n\n<!-- made -->\n{}<!-- end -->\nc\n"
+    (tmp_path / "a.md").write_text(page.format(old))
+    monkeypatch.setattr(made, "MADE", [made.Made("a.md", "<!-- made -->", "<!-- end -->", ("tool",))])
+    monkeypatch.setattr(made, "run_tool", lambda page, made: new)
+    made.write_made_parts(tmp_path, {})
+    assert (tmp_path / "a.md").read_text() == page.format(new)
 
 
 @pytest.mark.parametrize("folder", ["bench", "tools"])

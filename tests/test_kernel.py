@@ -13,12 +13,12 @@ import tempfile
 import unittest
 from pathlib import Path
 
-from kernel.compare import Difference, TimeSpan, differing_fields, is_expected_packet
+from kernel.compare import Difference, TimeSpan, differing_fields, has_expected_sequence_and_syn_fin_rst
 from kernel.device import NoDevice
-from kernel.main import ScriptJob, parse_options, run_once, make_pool, script_files
+from kernel.main import ScriptJob, parse_options, run_once_returning_any_fault, make_pool, script_files
 from kernel.report import difference_places, script_lines
 from kernel.run import RunOutcome
-from kernel.script import UnsupportedScript, read_script
+from kernel.script import UnsupportedScript, parse_script_into_runnable_events
 from kernel.settings import KernelSettings, Tuning, settings_of, tuning_of
 from kernel.wire import PEER_ISN, SeenPacket, decode_packet, encode_packet
 from pdsuite.faults import Fault
@@ -44,20 +44,20 @@ class Examples(unittest.TestCase):
 
 class ReadingTest(unittest.TestCase):
     def test_a_packet_with_all_its_parts(self) -> None:
-        (event,) = read_script("\n+.5~+1 > P. 1:11(10) ack 2 win 3 <nop,sack 1:2 3:4> // why\n")
+        (event,) = parse_script_into_runnable_events("\n+.5~+1 > P. 1:11(10) ack 2 win 3 <nop,sack 1:2 3:4> // why\n")
         options = (TcpOption("nop"), TcpOption("sack", (1, 2, 3, 4)))
         self.assertEqual(event.line, 2)
         self.assertEqual(event.time, Time(500_000, 1_000_000))
         self.assertEqual(event.action, Packet(False, "P.", 1, 11, 2, 3, options, "<nop,sack 1:2 3:4>"))
 
     def test_dots_stand_for_any_options_and_a_star_for_any_time(self) -> None:
-        (event,) = read_script("* > S. 0:0(0) ack 1 <...>")
+        (event,) = parse_script_into_runnable_events("* > S. 0:0(0) ack 1 <...>")
         self.assertIsNone(event.time.first)
         assert isinstance(event.action, Packet)
         self.assertTrue(event.action.takes_any_options)
 
     def test_a_call_with_brackets_an_error_and_a_note(self) -> None:
-        (event,) = read_script("1 connect(3, {a, (b)}, [1]) = -1 EBADF (Bad descriptor)")
+        (event,) = parse_script_into_runnable_events("1 connect(3, {a, (b)}, [1]) = -1 EBADF (Bad descriptor)")
         self.assertEqual(event.action, Call("connect", ("3", "{a, (b)}", "[1]"), -1, "EBADF"))
 
     def test_what_is_not_run_is_refused_at_its_line(self) -> None:
@@ -68,7 +68,7 @@ class ReadingTest(unittest.TestCase):
             "\n0 > . 1:9(9)",
         ):
             with self.assertRaises(UnsupportedScript) as caught:
-                read_script(text)
+                parse_script_into_runnable_events(text)
             self.assertEqual(caught.exception.line, 2)
 
 
@@ -99,7 +99,7 @@ class Comparing(unittest.TestCase):
         expected = Packet(False, "P", 1, 501, 2, 257, (TcpOption("nop"),))
         fields = differing_fields(expected, self.seen, TimeSpan(0.0, 1.0), frozenset())
         self.assertEqual(fields, ["time", "flags", "push", "seq", "ack", "win", "options"])
-        self.assertFalse(is_expected_packet(expected, self.seen))
+        self.assertFalse(has_expected_sequence_and_syn_fin_rst(expected, self.seen))
 
     def test_what_is_ignored_or_not_written_does_not_differ(self) -> None:
         expected = Packet(False, "P.", 1, 1001)
@@ -141,7 +141,9 @@ class SetupTest(unittest.TestCase):
         return str(raised.exception)
 
     def test_settings_become_switches_and_a_route(self) -> None:
-        tuning = tuning_of(read_script(OPENING), KernelSettings(min_rto_us=300_000), {"net.ipv4.tcp_frto": "0"})
+        tuning = tuning_of(
+            parse_script_into_runnable_events(OPENING), KernelSettings(min_rto_us=300_000), {"net.ipv4.tcp_frto": "0"}
+        )
         self.assertEqual(tuning.route[:4], ("initcwnd", "4", "rto_min", "300ms"))
         self.assertIn(("net.ipv4.tcp_frto", "0"), tuning.sysctls)
         self.assertIn(("net.ipv4.tcp_rmem", "4096 131070 4194304"), tuning.sysctls)
@@ -172,10 +174,10 @@ class RunningTest(unittest.TestCase):
     """Runs against the kernel, which are skipped where there is no tun device."""
 
     def run_text(self, text: str, *ignored: str) -> RunOutcome:
-        events = read_script(OPENING + text)
+        events = parse_script_into_runnable_events(OPENING + text)
         job = ScriptJob(Path("a.pkt"), events, tuning_of(events, KernelSettings(), {}), frozenset(ignored))
         with make_pool(1) as pool:
-            found = pool.apply(run_once, (job,))
+            found = pool.apply(run_once_returning_any_fault, (job,))
         if isinstance(found, NoDevice):
             self.skipTest(f"no tun device here: {found}")
         assert isinstance(found, RunOutcome)
@@ -196,10 +198,12 @@ class RunningTest(unittest.TestCase):
         self.assertEqual([(it.line, it.field, it.words) for it in got], [(8, "result", "10")])
 
     def test_a_switch_that_the_kernel_lacks_is_told(self) -> None:
-        events = read_script(OPENING)
+        events = parse_script_into_runnable_events(OPENING)
         tuning = Tuning((("net.ipv4.no_such_switch", "1"),), (), 1500, False)
         with make_pool(1) as pool:
-            self.assertIsInstance(pool.apply(run_once, (ScriptJob(Path("a"), events, tuning, frozenset()),)), NoDevice)
+            self.assertIsInstance(
+                pool.apply(run_once_returning_any_fault, (ScriptJob(Path("a"), events, tuning, frozenset()),)), NoDevice
+            )
 
 
 if __name__ == "__main__":

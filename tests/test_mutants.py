@@ -230,7 +230,10 @@ def test_what_names_no_test(test: str) -> None:
     ],
 )
 def test_the_verdict_of_a_test(test: NamedTest, status: int, printed: str, passes: bool, fails: bool) -> None:
-    assert (test.passes(status, printed), test.fails(status, printed)) == (passes, fails)
+    assert (
+        test.has_passed_by_status_and_output(status, printed),
+        test.has_failed_or_timed_out_by_status_and_output(status, printed),
+    ) == (passes, fails)
 
 
 def test_tests_are_run_in_a_copy(tmp_path: Path) -> None:

@@ -5,7 +5,7 @@ import subprocess
 import sys
 from pathlib import Path
 
-from names import ScannedText, sentences_that_hide_their_subject, words_to_avoid_in_prose_of
+from names import ScannedText, words_to_avoid_at_beginning_of_sentences, words_to_avoid_in_prose_of
 
 TOP = Path(__file__).resolve().parents[1]
 
@@ -29,7 +29,7 @@ def test_a_word_to_avoid_may_begin_a_sentence() -> None:
 def test_a_sentence_that_hides_its_subject_is_listed_but_for_titles_and_questions() -> None:
     page = "## What it does\nSo. What it does is short.\nWhat does it do?\nIt does what it says.\n"
     source = '"""What it is."""\nWhat = 1  # Who reads it.\n'
-    found = sentences_that_hide_their_subject(
+    found = words_to_avoid_at_beginning_of_sentences(
         [ScannedText("a.md", page), ScannedText("b.py", source)],
         {"What": "name it", "Who": "name it"},
         {"*.py: Who": ""},

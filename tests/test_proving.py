@@ -75,9 +75,9 @@ def test_a_crate_that_changed_takes_longer(tmp_path: Path, monkeypatch: pytest.M
 def test_memory_that_the_group_of_processes_has_taken_is_not_free(monkeypatch: pytest.MonkeyPatch) -> None:
     found = {"/proc/meminfo": 9, "/sys/fs/cgroup/memory.max": 8_192, "/sys/fs/cgroup/memory.stat": 3_072}
     monkeypatch.setattr(proofs, "find_number_matching_pattern_in_file", lambda file, _pattern: found.get(file))
-    assert proofs.free_memory() == 5_120
+    assert proofs.free_memory_within_machine_and_cgroup() == 5_120
     del found["/sys/fs/cgroup/memory.max"]
-    assert proofs.free_memory() == 9_216
+    assert proofs.free_memory_within_machine_and_cgroup() == 9_216
 
 
 def test_a_contract_that_names_no_definition_cites_nothing(tmp_path: Path) -> None:

@@ -24,9 +24,9 @@ RANDOM = TOP / "tests" / "cases" / "random"
 
 @pytest.mark.parametrize("it", STORED, ids=[it.kind for it in STORED])
 def test_the_stored_rows_are_those_that_are_drawn(it: StoredRows) -> None:
-    rows = list(it.draw_rows())
+    rows = list(it.rows_drawn_from_seed())
     assert it.rows_file.read_bytes() == encode_lines(rows)
-    assert it.output_file.read_bytes().count(encode_lines(it.lists.output(rows))) == 1
+    assert it.output_file.read_bytes().count(encode_lines(it.row_lists_of_program_and_kind.output(rows))) == 1
 
 
 def test_few_random_rows_are_stored() -> None:

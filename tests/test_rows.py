@@ -8,7 +8,7 @@ from typing import Any, Optional
 
 import pytest
 
-from harness.accept import accept_files
+from harness.accept import run_and_accept_files
 from harness.calls import ProgramCall, ProgramOutput, run_test_alone
 from harness.answered_tables import answered_tables_in
 from harness.compare import RowResult, report_of_verdicts
@@ -330,7 +330,7 @@ class AcceptFixture:
         """The file after that."""
         self.fixture.file.write_text(text)
         above = f"{self.fixture.file.parent}/"
-        for rows, others in accept_files([self.fixture.file], lambda calls: [program(it) for it in calls]):
+        for rows, others in run_and_accept_files([self.fixture.file], lambda calls: [program(it) for it in calls]):
             self.accepted += [it.removeprefix(above) for it in rows]
             self.refused += [it.removeprefix(above) for it in others]
         return self.fixture.file.read_text()

@@ -13,7 +13,7 @@ WORK = """
 import os, signal, sys, time
 sys.path.insert(0, sys.argv[1])
 import signals
-signals.raise_at_first_signal()
+signals.install_handlers_raising_at_first_signal()
 try:
     print("begun", flush=True)
     sys.stdin.read()

@@ -11,7 +11,7 @@ import pytest
 TOP = Path(__file__).resolve().parents[1]
 sys.path.insert(0, str(TOP / "tools"))
 
-from kit import kit_id_on_path  # noqa: E402
+from kit import kit_id_on_path_or_none_without_rt  # noqa: E402
 from source_sums import Unreadable, sources_of_proof, proof_source_sums_by_path  # noqa: E402
 
 READ = [
@@ -110,4 +110,4 @@ def test_a_kit_is_named_by_the_file_beside_the_folder_of_its_command(
         (["own", "links"], ""),
     ):
         monkeypatch.setenv("PATH", ":".join(str(tmp_path / it) for it in folders))
-        assert kit_id_on_path() == named
+        assert kit_id_on_path_or_none_without_rt() == named

@@ -69,7 +69,7 @@ def program_output_if_status_is_number(output: bytes, errors: bytes, status: byt
     return ProgramOutput(output, errors, int(status)) if status.strip().isdigit() else None
 
 
-def affected_by_program_answers_and_trees(answers: bytes, before: Optional[Path]) -> dict[str, object]:
+def affected_rows_paragraphs_and_unanswered_count(answers: bytes, before: Optional[Path]) -> dict[str, object]:
     """The rows and paragraphs that are affected."""
     tables = tables_about_sender()
     each = list(zip(*[leading_length_prefixed_parts(answers)] * 6))
@@ -101,7 +101,7 @@ def main(arguments: Sequence[str]) -> int:
             encode_program_call_with_output_limit(it) for it in calls_of_tables(tables_about_sender())
         )
     else:
-        print(json.dumps(affected_by_program_answers_and_trees(options.answers.read_bytes(), options.before)))
+        print(json.dumps(affected_rows_paragraphs_and_unanswered_count(options.answers.read_bytes(), options.before)))
     return 0
 
 

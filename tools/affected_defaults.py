@@ -57,7 +57,7 @@ def changed_defaults(before: Path, tree: Path) -> Iterator[ChangedDefault]:
             yield ChangedDefault(key, line, old[key][1], value)
 
 
-def find_documentation_lines_of_setting(key: str, tree: Path) -> Iterator[tuple[str, int]]:
+def find_lines_stating_default_of_setting(key: str, tree: Path) -> Iterator[tuple[str, int]]:
     """The files of a tree that say a setting's default, each with the line."""
     for name, begin in PLACES:
         file = tree / name

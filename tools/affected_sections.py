@@ -21,7 +21,7 @@ from changed_rules import (
     definitions_named_by,
     rules_in,
 )
-from affected_defaults import changed_defaults, find_documentation_lines_of_setting
+from affected_defaults import changed_defaults, find_lines_stating_default_of_setting
 
 # The pages whose paragraphs, or rows of tables, are about rules.
 PAGES = ("docs/SENDER.md", "docs/LINUX.md")
@@ -49,7 +49,7 @@ class Citation:
     section: str = ""
     parts: frozenset[str] = frozenset()
 
-    def cites_same_section_overlapping_parts(self, other: Citation) -> bool:
+    def cites_same_section_and_part_if_both_have_one(self, other: Citation) -> bool:
         """Whether both are about the same."""
         is_same = (self.rfc, self.section) == (other.rfc, other.section) and self.section
         return bool(is_same and (not self.parts or not other.parts or self.parts & other.parts))
@@ -131,7 +131,7 @@ def definitions_with_citations_in(crate: str, file: str, text: str) -> Iterator[
         line += block.count("\n") + 2
 
 
-def find_functions_and_constants_with_lines(text: str) -> Iterator[tuple[re.Match[str], int, list[str]]]:
+def functions_and_constants_with_line_and_text(text: str) -> Iterator[tuple[re.Match[str], int, list[str]]]:
     """The functions and constants of a file of code: each with its line, and its lines from its comment to its end."""
     lines = text.split("\n")
     for number, line in enumerate(lines):
@@ -157,7 +157,7 @@ def functions_and_constants_with_citations(crate: str, path: str, text: str) -> 
         for low, file, names in GHOST_USE.findall(text)
         for name in (it.strip() for it in names.split(","))
     }
-    for found, line, lines in find_functions_and_constants_with_lines(text):
+    for found, line, lines in functions_and_constants_with_line_and_text(text):
         comment = " ".join(it.strip().removeprefix("///") for it in lines if it.lstrip().startswith("///"))
         body = [it.strip() for it in lines if not it.lstrip().startswith("//")]
         contract = " ".join(it for it in body if it.startswith(("ensures", "requires")))
@@ -239,7 +239,7 @@ def each_changed_code_item_with_names(before: Path, tree: Path) -> Iterator[Chan
         yield ChangedNames(item.name, item.place, sections, tuple(sorted(changed)), whole)
 
 
-def changed_items_citations_unless_function(
+def changed_items_and_citations_none_if_function(
     before: SenderSources, after: SenderSources
 ) -> Iterator[tuple[SourceItem, set[Citation]]]:
     """The changed items, each with all that it cites: a function nothing, since its rule is what its contract names."""
@@ -266,7 +266,7 @@ class CitingParagraph:
     cited: tuple[Citation, ...]
 
 
-def citing_paragraphs_in(page: str) -> Iterator[CitingParagraph]:
+def paragraphs_citing_any_section(page: str) -> Iterator[CitingParagraph]:
     """The paragraphs of the page that cite something."""
     heading, above = "", NOTHING
     for number, line in enumerate(page.split("\n"), 1):
@@ -277,18 +277,19 @@ def citing_paragraphs_in(page: str) -> Iterator[CitingParagraph]:
                 above = default_citation_from_heading(line)
             cited = tuple(citations_in(line, above))
             if cited:
-                yield CitingParagraph(number, heading, paragraph_name_by_bold_or_first_words(line), cited)
+                yield CitingParagraph(number, heading, paragraph_name_from_bold_cell_or_first_words(line), cited)
 
 
 def all_citing_paragraphs_of_page(page: Path) -> Iterator[CitingParagraph]:
     """The paragraphs of a page, if it is there."""
-    return citing_paragraphs_in(page.read_text(encoding="utf-8")) if page.exists() else iter(())
+    return paragraphs_citing_any_section(page.read_text(encoding="utf-8")) if page.exists() else iter(())
 
 
-def paragraph_name_by_bold_or_first_words(line: str) -> str:
+def paragraph_name_from_bold_cell_or_first_words(line: str) -> str:
     """The name of a paragraph: its bold words, the first cell of its row, or else its first words.
 
-    >>> [paragraph_name_by_bold_or_first_words(it) for it in ("- a **b c** d", "| [e f](#e) | g |", "1. h i j k l m n")]
+    >>> name_of = paragraph_name_from_bold_cell_or_first_words
+    >>> [name_of(it) for it in ("- a **b c** d", "| [e f](#e) | g |", "1. h i j k l m n")]
     ['b c', 'e f', 'h i j k l m']
     """
     bold = re.search(r"\*\*(.+?)\*\*", line)
@@ -315,16 +316,16 @@ def affected_paragraphs_and_unmatched_items(before: Path, tree: Path) -> Iterato
     """Where changed defaults are written, the paragraphs of changed rules, and last what changed without one."""
     for default in changed_defaults(before, tree):
         reason = f"its default is {default.after}, and was {default.before}"
-        for page, line in find_documentation_lines_of_setting(default.key, tree):
+        for page, line in find_lines_stating_default_of_setting(default.key, tree):
             yield AffectedParagraph(page, line, "a default", default.key, (reason,), (default.place,))
-    changed = list(changed_items_citations_unless_function(read_sender_sources(before), read_sender_sources(tree)))
+    changed = list(changed_items_and_citations_none_if_function(read_sender_sources(before), read_sender_sources(tree)))
     listed: set[str] = set()
     for page, it in ((page, it) for page in PAGES for it in all_citing_paragraphs_of_page(tree / page)):
         common = [
             (item, one)
             for item, cited in changed
             for one in it.cited
-            if any(map(one.cites_same_section_overlapping_parts, cited))
+            if any(map(one.cites_same_section_and_part_if_both_have_one, cited))
         ]
         if common:
             rules = tuple(dict.fromkeys(f"{item.name} ({item.place})" for item, _ in common))

@@ -121,7 +121,7 @@ def combined_main_file_path_or_default(top: Path) -> Path:
 
 def make_user_or_tree_folder_of_builds(top: Path) -> Path:
     """The folder of all builds: the user's own, or else the tree's."""
-    for folder in (*none_or_one_user_build_folder(), top / "crates" / PROGRAMS[0] / "out" / "builds"):
+    for folder in (*none_or_one_path_for_user_builds(), top / "crates" / PROGRAMS[0] / "out" / "builds"):
         with contextlib.suppress(OSError):
             folder.mkdir(mode=0o700, parents=True, exist_ok=True)
             if is_own_folder_closed_to_others(folder) and os.access(folder, os.W_OK | os.X_OK):
@@ -129,7 +129,7 @@ def make_user_or_tree_folder_of_builds(top: Path) -> Path:
     raise CacheError("no folder of this user's own can be written")
 
 
-def none_or_one_user_build_folder() -> Iterator[Path]:
+def none_or_one_path_for_user_builds() -> Iterator[Path]:
     """The folder below that which users have for what can be made again."""
     above = os.environ.get("XDG_CACHE_HOME", "")
     with contextlib.suppress(RuntimeError):
@@ -164,7 +164,7 @@ def has_locked_without_waiting(descriptor: int) -> bool:
     return True
 
 
-def prune_builds_sparing_recent_and_own(all_builds: Path, own: Path) -> None:
+def prune_if_too_large_sparing_recent_and_own(all_builds: Path, own: Path) -> None:
     """Removes builds that weren't used for the longest time, where all of them are too large; never the own one."""
     with contextlib.suppress(OSError):
         found = sorted((it.stat().st_mtime, it) for it in all_builds.iterdir() if it.is_dir() and it != own)

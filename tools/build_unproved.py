@@ -75,7 +75,7 @@ def main() -> int:
     parser.add_argument("--kept", action="store_true", help="builds nothing")
     parser.add_argument("--way", choices=list(SERVES), default=ANY, help="how they are built")
     options = parser.parse_args()
-    signals.raise_at_first_signal()
+    signals.install_handlers_raising_at_first_signal()
     try:
         return find_or_build_and_print_returning_status(options.tree.absolute(), options.way, options.kept)
     except signals.StoppedBySignal as signal:

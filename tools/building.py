@@ -28,7 +28,7 @@ from build_cache import (
     is_own_folder_closed_to_others,
     cached_build_of_tree_and_kit,
     combined_main_file_path_or_default,
-    prune_builds_sparing_recent_and_own,
+    prune_if_too_large_sparing_recent_and_own,
     sha256_of_program,
 )
 from kit_tools import NATIVE, BuildKit, UnknownKitError, kit_or_raise_unknown_kit_error, linker_command, reader_command
@@ -80,7 +80,7 @@ def find_or_build(top: Path, way: str, note: Note) -> Path:
             found = kept.find_intact_program_folder_and_mark_used(way) or build_beside_and_move_into_cache(
                 kept, kit, top, way, note
             )
-        prune_builds_sparing_recent_and_own(kept.folder.parent, kept.folder)
+        prune_if_too_large_sparing_recent_and_own(kept.folder.parent, kept.folder)
         return found
     except (UnknownKitError, CacheError, source_sums.Unreadable, OSError) as error:
         raise NoBuild(str(error)) from error
@@ -94,7 +94,7 @@ def build_beside_and_move_into_cache(kept: CachedBuild, kit: BuildKit, top: Path
     folder.mkdir(mode=0o700)
     try:
         if not has_module_matching_its_checksum(kept.folder):
-            make_entry_module_by_kit_reader(kit, top, folder, note)
+            read_sources_by_kit_into_cache_entry_folder(kit, top, folder, note)
             shutil.rmtree(kept.folder, ignore_errors=True)
             (folder / "entry").rename(kept.folder)
         compile_and_link(kit, kept.folder, folder, way, note)
@@ -119,14 +119,14 @@ def has_module_matching_its_checksum(entry: Path) -> bool:
         return False
 
 
-def make_entry_module_by_kit_reader(kit: BuildKit, top: Path, folder: Path, note: Note) -> None:
+def read_sources_by_kit_into_cache_entry_folder(kit: BuildKit, top: Path, folder: Path, note: Note) -> None:
     """Reads the sources of a tree, and leaves in the folder `entry` all that programs are made of later."""
     tree, toolchain, entry = folder / "tree", folder / "toolchain", folder / "entry"
     make_combined_tree(top, tree)
-    make_toolchain_folder_for_reader(kit, toolchain, folder)
+    make_toolchain_whose_compiler_keeps_module(kit, toolchain, folder)
     (folder / "temporary").mkdir()
     command = reader_command(kit, tree, PROGRAM, toolchain)
-    status, printed = run_with_turns_capturing_stderr_only(
+    status, printed = run_with_callback_each_second_giving_stderr(
         command, tree / "crates" / PROGRAM, folder / "temporary", lambda: note(READING)
     )
     if not (folder / "module.bc").exists():
@@ -177,7 +177,7 @@ def crates_txt_with_libraries_of_both_programs(table: str) -> str:
     return "\n".join(f"{it.partition('#')[0].rstrip()} {other}" if it == own else it for it in lines)
 
 
-def make_toolchain_folder_for_reader(kit: BuildKit, toolchain: Path, folder: Path) -> None:
+def make_toolchain_whose_compiler_keeps_module(kit: BuildKit, toolchain: Path, folder: Path) -> None:
     """Puts into a folder the toolchain that the reader is given."""
     (toolchain / "bin").mkdir(parents=True)
     (toolchain / "lib").symlink_to(kit.compiler.parents[1] / "lib")
@@ -222,13 +222,13 @@ def fault_handler_compile_command(kit: BuildKit, made_file: Path) -> list[str]:
 
 def run_kit_tool_or_raise_no_build(command: list[str], folder: Path, turn: Callable[[], None]) -> None:
     """Runs a tool of the kit that has to do its work."""
-    status, printed = run_with_turns_capturing_stderr_only(command, folder, folder, turn)
+    status, printed = run_with_callback_each_second_giving_stderr(command, folder, folder, turn)
     if status:
         lines = printed.decode(errors="replace").split("\n")
         raise NoBuild(f"{Path(command[0]).name} ended with status {status}: {lines[0]}")
 
 
-def run_with_turns_capturing_stderr_only(
+def run_with_callback_each_second_giving_stderr(
     command: list[str], folder: Path, temporary: Path, turn: Callable[[], None]
 ) -> tuple[int, bytes]:
     """Runs a command in a session of its own, with a turn at first and after each second; its status and error text.

@@ -17,7 +17,7 @@ TOP = Path(__file__).resolve().parents[1]
 sys.path.insert(0, str(TOP / "tests"))
 
 from documents.shown import commands_shown_in  # noqa: E402
-from documents.walking import run_shown_commands  # noqa: E402
+from documents.walking import run_shown_commands_and_yield_each_step  # noqa: E402
 
 SECONDS = 4 * 3_600.0
 
@@ -35,7 +35,7 @@ def main(arguments: list[str]) -> int:
     begin = time.monotonic()
     passed = failed = 0
     text = (tree / "docs/TUTORIAL.md").read_text(encoding="utf-8")
-    for step in run_shown_commands(list(commands_shown_in(text)), tree, SECONDS, is_proved=False):
+    for step in run_shown_commands_and_yield_each_step(list(commands_shown_in(text)), tree, SECONDS, is_proved=False):
         name = step.shown.command.partition("\n")[0] or "what watch prints"
         state = "ok" if step.printed_instead is None else "FAILED"
         print(f"{state} {step.shown.line}: {name} ({step.seconds:.1f} s)", flush=True)

@@ -46,7 +46,7 @@ def copy_to_trees_returning_checksums(
         for tree in trees:
             (tree / path).parent.mkdir(parents=True, exist_ok=True)
             (tree / path).write_bytes(octets)
-    copies = [wait_until_stamps_of_copy_settle(tree, crates) for tree in trees]
+    copies = [record_stamps_once_later_changes_show(tree, crates) for tree in trees]
     # From here on a change of a copy shows by its stamps, so what is in it now is what is proved.
     for tree in trees:
         if {
@@ -68,7 +68,7 @@ def crates_txt_lines_of_crates(crates: tuple[str, ...], table: bytes) -> bytes:
     return b"".join(it for it in lines if names.intersection(it.partition(b":")[0].split()[:1]))
 
 
-def wait_until_stamps_of_copy_settle(tree: Path, crates: tuple[str, ...]) -> Copy:
+def record_stamps_once_later_changes_show(tree: Path, crates: tuple[str, ...]) -> Copy:
     """A copy that was made, once each change of it from then on shows."""
     until = time.monotonic() + STILL
     while time.monotonic() < until:

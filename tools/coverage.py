@@ -73,7 +73,7 @@ def bug_lines(bugs: dict[str, list[dict[str, Any]]], scripts: dict[str, Path]) -
             yield f"- {row['bug']}: {seen + more if seen else 'none: ' + row['unseen']}"
 
 
-def coverage_lines_refusing_unlisted() -> Iterator[str]:
+def coverage_lines_refusing_unlisted_sections() -> Iterator[str]:
     scripts = {path.stem: path for path in sorted(SUITE.glob("*/*.pkt"), key=lambda path: path.stem)}
     data = tomllib.loads((SUITE / "coverage.toml").read_text(encoding="utf-8"))
     tests: dict[tuple[int, str], list[Path]] = {}
@@ -98,6 +98,6 @@ def coverage_lines_refusing_unlisted() -> Iterator[str]:
 
 if __name__ == "__main__":
     try:
-        print("\n".join(coverage_lines_refusing_unlisted()))
+        print("\n".join(coverage_lines_refusing_unlisted_sections()))
     except (KeyError, ValueError) as fault:
         sys.exit(f"coverage: {fault}")

@@ -6,9 +6,9 @@
 #     runner of the rows found no memory, no call did.
 #   - the program test_book, with its argument `memory`, which lets a first refusal pass and makes the call again.
 #   - pdregress, with no input, with a script of one line, with an edit, with those of examples/ or the ones named, and with
-#     a settings text that is taken and one that is refused, each without workers, with one and with two. It reports that
-#     by status 2 and the fault 19 (with workers also 12, where they all left), and what it wrote is a prefix of what it
-#     writes with memory; or the refusal made no difference.
+#     a settings text that is taken and one that is refused, each without workers, with one and with two; and with the edit
+#     and `--rules`. It reports that by status 2 and the fault 19 (with workers also 12, where they all left), and what it
+#     wrote is a prefix of what it writes with memory; or the refusal made no difference.
 #   - pdrecord, with no input, with a script that is recorded, with a trace too, and with one that isn't. It reports that
 #     by status 2 and the fault 19 and writes nothing, or the refusal made no difference.
 # No run may take longer than a minute: some wait seconds for a thread that can't be made. Prints a line for each row, with
@@ -190,6 +190,9 @@ for workers in 0 1 2; do
         try_program "pdregress, $settings, --workers $workers" "$program" --workers "$workers" --settings "$settings"
     done
 done
+
+input=$work/edit
+try_program 'pdregress, edit, --rules' "$program" --rules
 
 cat >"$work/script" <<END
 0 socket(/* a */ ..., SOCK_STREAM, 0) = 3 (note) // b

@@ -12,7 +12,7 @@ from pathlib import Path
 
 sys.path.insert(0, str(Path(__file__).resolve().parents[1] / "tests"))
 
-from harness.compare import add_script_command  # noqa: E402
+from harness.compare import octets_of_add_command  # noqa: E402
 
 OCTETS = 1_000_000
 SECONDS = 60
@@ -89,7 +89,7 @@ def random_unordered_traffic_after_setup(dice, count):
 
 
 def add_script_command_of(name, text):
-    return add_script_command(name.decode(), text)
+    return octets_of_add_command(name.decode(), text)
 
 
 def random_add_and_edit_commands_only(dice, make):

@@ -27,7 +27,7 @@ TOP = rt_try.TOP
 sys.path.insert(0, str(TOP / "client"))
 
 from pdsuite.run.batches import Script  # noqa: E402
-from pdsuite.run.collect import find_selected_scripts_and_read_configs, suite_scripts_with_config  # noqa: E402
+from pdsuite.run.collect import find_selected_script_files_and_read_configs, suite_scripts_with_config  # noqa: E402
 from pdsuite.scripts.config import SuiteConfig, layer_of_option  # noqa: E402
 from pdsuite.scripts.settings import settings_as_toml  # noqa: E402
 from pdsuite.signals import Stop  # noqa: E402
@@ -166,7 +166,7 @@ def main() -> int:
     suite = SuiteConfig(layer_of_option(""))
     with Stop() as stop:
         scripts = [
-            it for it in suite_scripts_with_config(find_selected_scripts_and_read_configs(options.paths, [], suite, stop), suite) if not it.fault
+            it for it in suite_scripts_with_config(find_selected_script_files_and_read_configs(options.paths, [], suite, stop), suite) if not it.fault
         ]
     chance = random.Random(options.seed)
     cases = [spoil_random_script(scripts, chance) for _ in range(options.count)]

@@ -12,7 +12,7 @@ import sys
 
 import proof_sums
 import stamps
-from copies import wait_until_stamps_of_copy_settle
+from copies import record_stamps_once_later_changes_show
 from crate_graph import parse_dependencies_between_crates
 from proof_sums import program_path
 from proofs import TOP
@@ -53,12 +53,12 @@ def write_program_and_source_sums_files(programs: list[str], sums: dict[str, str
         )
 
 
-def run_gate_keeping_sums_whatever_status() -> int:
+def run_gate_keeping_sums_unless_tree_changed() -> int:
     kit = kit_whose_version_matches_its_file()
     top = str(TOP)
     crates = tuple(parse_dependencies_between_crates((TOP / TABLE).read_text()))
     programs = {it: stamps.stamp_of_link_target_or_absent(f"{top}/{program_path(it)}") for it in crates}
-    before = wait_until_stamps_of_copy_settle(TOP, crates)
+    before = record_stamps_once_later_changes_show(TOP, crates)
     sums = sums_of_files(top, sorted_files_among_places_or_refuse(paths_and_kinds_read_in_crates(top, crates)))
     last, status = run_gate_printing_all_but_last_line(kit)
     built = [
@@ -81,7 +81,7 @@ def run_gate_keeping_sums_whatever_status() -> int:
 
 def main() -> int:
     try:
-        return run_gate_keeping_sums_whatever_status()
+        return run_gate_keeping_sums_unless_tree_changed()
     except (ProofRefusedError, Unreadable, OSError) as why:
         print(f"gate: {why}", file=sys.stderr)
         return 2

@@ -19,7 +19,7 @@ def find_kit_command_on_path() -> str | None:
     return None
 
 
-def id_file_in_folder_of_kit(command: str) -> str:
+def kit_id_path_beside_folder_of_command(command: str) -> str:
     """The file that names the kit of a command, all links followed."""
     return os.path.join(os.path.dirname(os.path.dirname(os.path.realpath(command))), NAME)
 
@@ -27,13 +27,13 @@ def id_file_in_folder_of_kit(command: str) -> str:
 def read_kit_id_file_or_empty(command: str) -> str:
     """The name of a command's kit: the words of its KIT-ID. Without one it is empty, which is the name of no kit."""
     try:
-        with open(id_file_in_folder_of_kit(command), encoding="utf-8", errors="replace") as file:
+        with open(kit_id_path_beside_folder_of_command(command), encoding="utf-8", errors="replace") as file:
             return " ".join(file.read().split())
     except OSError:
         return ""
 
 
-def kit_id_on_path() -> str | None:
+def kit_id_on_path_or_none_without_rt() -> str | None:
     """The name of the kit that is on the PATH, or None where there is none."""
     command = find_kit_command_on_path()
     return None if command is None else read_kit_id_file_or_empty(command)

@@ -9,7 +9,7 @@ from pathlib import Path
 from crate_graph import parse_dependencies_between_crates, crates_below_one_in_build_order
 from mutant_files import Mutant, MutantError
 from parallel import Commands
-from proofs import TOP, copy_given_crates_without_output, free_memory, link_or_copy
+from proofs import TOP, copy_given_crates_without_output, free_memory_within_machine_and_cgroup, link_or_copy
 
 # The memory that the check of a crate takes at most, in octets.
 MEMORY = 4_000_000_000
@@ -20,7 +20,7 @@ EMPTY = "says little of the contract"
 
 def crates_at_once_by_cpus_and_memory() -> int:
     """How many crates are tried at once where nobody says: each takes a processor and its memory."""
-    return max(1, min(len(os.sched_getaffinity(0)), free_memory() // MEMORY))
+    return max(1, min(len(os.sched_getaffinity(0)), free_memory_within_machine_and_cgroup() // MEMORY))
 
 
 def crate_size(crate: str) -> int:
@@ -56,11 +56,11 @@ def build_missing_libraries(libraries: list[str], tree: Path, commands: Commands
             raise MutantError("\n".join([f"{name} isn't proved:", *last]))
 
 
-def refused_count_in_output(printed: str) -> int:
+def count_refused_by_contract_in_output(printed: str) -> int:
     """How many mutants were refused for what a contract says, by what `rt must-fail` printed.
 
     >>> empty = "refused, as it must be; says little of the contract"
-    >>> refused_count_in_output(f"a: refused, as it must be\\nb: {empty}\\nc\\n")
+    >>> count_refused_by_contract_in_output(f"a: refused, as it must be\\nb: {empty}\\nc\\n")
     1
     """
     return sum(REFUSED in line and EMPTY not in line for line in printed.splitlines())
@@ -90,7 +90,7 @@ def try_contract_mutants_returning_status(mutants: dict[str, list[Mutant]], at_o
 
     for crate, printed in commands.map_unordered(order, at_once, read_log_after_rt_must_fail):
         print(printed, end="", flush=True)
-        refused[crate] = refused_count_in_output(printed)
+        refused[crate] = count_refused_by_contract_in_output(printed)
     for crate in order:
         print(f"{crate}: {refused[crate]} of {len(mutants[crate])} refused")
     count, every = sum(refused.values()), sum(map(len, mutants.values()))

@@ -46,10 +46,10 @@ class NamedTest:
     place: str
     line: str = ""
 
-    def passes(self, status: int, printed: str) -> bool:
+    def has_passed_by_status_and_output(self, status: int, printed: str) -> bool:
         return f"ok shell {self.line}\n" in printed if self.line else status == 0
 
-    def fails(self, status: int, printed: str) -> bool:
+    def has_failed_or_timed_out_by_status_and_output(self, status: int, printed: str) -> bool:
         return status == TOO_SLOW or (f"FAILED shell {self.line}:\n" in printed if self.line else status == FAILED)
 
 
@@ -152,7 +152,7 @@ def try_and_print_mutant(mutant: FileMutant, copies: TreeCopies) -> bool:
     except MutantError as reason:
         print(f"{mutant.name}: {reason}", flush=True)
         return False
-    seen = test.fails(status, printed)
+    seen = test.has_failed_or_timed_out_by_status_and_output(status, printed)
     print(f"{mutant.name}: {'seen' if seen else 'NOT seen'} by {mutant.mutant.test}", flush=True)
     return seen
 
@@ -162,7 +162,7 @@ def output_if_tests_fail_without_mutant(tests: Sequence[NamedTest], copies: Tree
     places = list(dict.fromkeys(it.place for it in tests))
     with copies.lend_tree_without_restoring() as tree:
         status, printed = copies.run_tests_returning_status_and_output(tests[0].kind, places, tree, tests[0].line)
-    return "" if all(it.passes(status, printed) for it in tests) else printed[-2000:]
+    return "" if all(it.has_passed_by_status_and_output(status, printed) for it in tests) else printed[-2000:]
 
 
 def refuse_failing_tests(tests: Iterable[NamedTest], copies: TreeCopies, at_once: int) -> None:

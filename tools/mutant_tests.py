@@ -72,7 +72,7 @@ def copy_program_crates(program: str, tree: Path) -> None:
     copy_given_crates_without_output([*crates_below_one_in_build_order(program, uses), program], tree)
 
 
-def count_failed_runs(test: ProgramTest, tree: Path, times: int, limits: RunLimits) -> int:
+def build_and_run_test_counting_failed_runs(test: ProgramTest, tree: Path, times: int, limits: RunLimits) -> int:
     """How many of the test's runs, each made so many times, differ from what is wanted."""
     runs = {f"{number:05}": run for number, run in enumerate(test.runs * times)}
     cases, answers = tree / "cases", tree / "answers"
@@ -85,10 +85,10 @@ def count_failed_runs(test: ProgramTest, tree: Path, times: int, limits: RunLimi
     log = tree / "log"
     if limits.commands.run_command([sys.executable, "-B", TOP / "tools" / "run_cases.py", *arguments], tree, log):
         raise MutantError(f"{test.program} isn't built:\n{log.read_text(errors='replace')[-1000:]}")
-    return sum(bool(run_fault(run, read_case_output_errors_and_status(answers, name))) for name, run in runs.items())
+    return sum(bool(run_fault(run, read_program_answer_to_case(answers, name))) for name, run in runs.items())
 
 
-def read_case_output_errors_and_status(folder: Path, name: str) -> ProgramOutput:
+def read_program_answer_to_case(folder: Path, name: str) -> ProgramOutput:
     """The program's output for a case; a case without an answer has no status."""
     output, errors = ((folder / f"{name}.{kind}").read_bytes() for kind in ("output", "errors"))
     status = (folder / f"{name}.status").read_text()
@@ -111,7 +111,7 @@ def refuse_failing_tests(tests: list[ProgramTest], limits: RunLimits) -> None:
     for program in sorted({it.program for it in tests}):
         runs = tuple(dict.fromkeys(run for it in tests if it.program == program for run in it.runs))
         with temporary_tree_of(program, f"{program}.as-it-is", limits.work) as tree:
-            failed = count_failed_runs(ProgramTest(program, runs), tree, 1, limits)
+            failed = build_and_run_test_counting_failed_runs(ProgramTest(program, runs), tree, 1, limits)
         if failed:
             raise MutantError(f"{failed} of {len(runs)} runs of {program} fail without a mutant")
 
@@ -122,7 +122,7 @@ def try_and_print_mutant(mutant: CrateMutant, test: ProgramTest, limits: RunLimi
     try:
         with temporary_tree_of(test.program, f"{mutant.crate}.{mutant.mutant.name}", limits.work) as tree:
             apply_mutant(mutant.mutant, tree / "crates" / mutant.crate)
-            failed = count_failed_runs(test, tree, limits.times, limits)
+            failed = build_and_run_test_counting_failed_runs(test, tree, limits.times, limits)
     except MutantError as reason:
         print(f"{mutant.name}: {reason}", flush=True)
         return False

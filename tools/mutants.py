@@ -106,7 +106,7 @@ def try_chosen_mutants(options: argparse.Namespace) -> int:
 
 def main() -> int:
     options = make_parser().parse_args()
-    signals.raise_at_first_signal()
+    signals.install_handlers_raising_at_first_signal()
     try:
         return try_chosen_mutants(options)
     except (MutantError, NotRunError) as reason:

@@ -37,12 +37,12 @@ class ScannedText:
     text: str
 
     @property
-    def suffix(self) -> str:
+    def suffix_or_sh_for_shell_shebang(self) -> str:
         """The kind of the file; a shell program may have no suffix."""
         return ".sh" if self.text.startswith("#!/bin/sh") else Path(self.path).suffix
 
 
-def read_all_git_files_as_text() -> Iterator[ScannedText]:
+def read_git_files_as_text_skipping_links() -> Iterator[ScannedText]:
     """The files that git has and that are text."""
     listed = subprocess.run(["git", "ls-files", "-z"], cwd=TOP, capture_output=True, check=True).stdout
     for path in map(TOP.joinpath, filter(None, listed.decode().split("\0"))):
@@ -52,11 +52,11 @@ def read_all_git_files_as_text() -> Iterator[ScannedText]:
 
 def types_in(text: ScannedText) -> Iterator[tuple[int, str]]:
     """The types of a file by their lines, but for a type that is local to another one, as an associated type is."""
-    if text.suffix == ".rt" and "/src/" in text.path:
+    if text.suffix_or_sh_for_shell_shebang == ".rt" and "/src/" in text.path:
         for found in RATTLE_TYPE.finditer(text.text):
             if not found[0].startswith(" ") or "type " not in found[0]:
                 yield text.text.count("\n", 0, found.start(1)) + 1, found[1]
-    elif text.suffix == ".py" and text.path.startswith(PYTHON_FOLDERS):
+    elif text.suffix_or_sh_for_shell_shebang == ".py" and text.path.startswith(PYTHON_FOLDERS):
         for node in ast.walk(ast.parse(text.text)):
             if isinstance(node, ast.ClassDef) and not node.name.startswith("Test"):
                 yield node.lineno, node.name
@@ -74,10 +74,10 @@ def python_prose(source: str) -> Iterator[tuple[int, str]]:
 
 def prose_in(text: ScannedText) -> Iterator[tuple[int, str]]:
     """The prose of a file, by its lines."""
-    if text.suffix == ".py":
+    if text.suffix_or_sh_for_shell_shebang == ".py":
         yield from python_prose(text.text)
-    elif text.suffix in COMMENTS:
-        comment = re.compile(COMMENTS[text.suffix])
+    elif text.suffix_or_sh_for_shell_shebang in COMMENTS:
+        comment = re.compile(COMMENTS[text.suffix_or_sh_for_shell_shebang])
         for number, line in enumerate(text.text.split("\n"), 1):
             yield from ((number, found[1]) for found in comment.finditer(line))
 
@@ -109,7 +109,7 @@ def words_to_avoid_in_prose_of(
                         yield f"{text.path}:{line}", f"{found[0]} ({instead})"
 
 
-def sentences_that_hide_their_subject(
+def words_to_avoid_at_beginning_of_sentences(
     files: list[ScannedText], words: dict[str, str], explained: dict[str, str]
 ) -> Iterator[tuple[str, str]]:
     """The places of words that are to begin no sentence but a title or a question, each with what to do instead."""
@@ -118,17 +118,18 @@ def sentences_that_hide_their_subject(
         for line, prose in prose_in(text):
             for word, instead in words.items():
                 found = re.search(rf"(?:^[^\w\"`#]*|[.!:] ){word} [^?]*$", prose)
-                if found and word not in allowed and not (text.suffix == ".md" and prose.startswith("#")):
+                is_title = text.suffix_or_sh_for_shell_shebang == ".md" and prose.startswith("#")
+                if found and word not in allowed and not is_title:
                     yield f"{text.path}:{line}", f"{word} ({instead})"
 
 
 def main() -> int:
     with (TOP / "tools" / "names.toml").open("rb") as file:
         table = tomllib.load(file)
-    files = list(read_all_git_files_as_text())
+    files = list(read_git_files_as_text_skipping_links())
     nouns = place_and_repeated_type_name_pairs(files, table["nouns"], table["second_readings"])
     words = words_to_avoid_in_prose_of(files, table["words"], table["explained"])
-    left = [*nouns, *words, *sentences_that_hide_their_subject(files, table["beginnings"], table["explained"])]
+    left = [*nouns, *words, *words_to_avoid_at_beginning_of_sentences(files, table["beginnings"], table["explained"])]
     for place, word in left:
         print(f"{place}: {word}")
     return 1 if left else 0

@@ -52,6 +52,26 @@ put() { # MODE FILE.. FOLDER, below the root of what is packed
     done
 }
 
+# The files in a folder of the tree, by their paths from it: those that git tracks, or all where it doesn't track this tool.
+files_in() { # FOLDER
+    (
+        cd "$top/$1"
+        if git ls-files --error-unmatch "$top/tools/package.sh" >/dev/null 2>&1; then
+            git -c core.quotePath=off ls-files
+        else
+            find . -type f ! -path '*/__pycache__/*' | sed 's,^\./,,'
+        fi
+    ) | while IFS= read -r file; do
+        [ ! -f "$top/$1/$file" ] || printf '%s\n' "$file"
+    done
+}
+
+put_files_of() { # FOLDER-OF-THE-TREE FOLDER
+    files_in "$1" | while IFS= read -r file; do
+        put 644 "$top/$1/$file" "$2/$(dirname "$file")"
+    done
+}
+
 programs() {
     "$top/prove" || true
     for program in $(cat "$top/packaging/programs.txt"); do
@@ -67,13 +87,11 @@ client() {
     share=usr/share/$name
     put 755 "$top/pdsuite" "$share"
     put 644 "$top/client/packages.txt" "$top/client/packages-more.txt" "$share/client"
-    (cd "$top/client" && find pdsuite -type f ! -path '*/__pycache__/*') | while read -r module; do
-        put 644 "$top/client/$module" "$share/client/$(dirname "$module")"
-    done
+    put_files_of client/pdsuite "$share/client/pdsuite"
     echo "$version $commit" >"$root/$share/version"
     ln -s "../share/$name/pdsuite" "$root/usr/bin/pdsuite"
     page pdsuite "$top/pdsuite"
-    for command in run watch lsp list import expect diff compare search measure record; do
+    for command in run watch lsp list import expect diff compare search measure record rules; do
         page "pdsuite-$command" "$top/pdsuite" "$command"
     done
     mkdir -p "$root/$completions"
@@ -83,9 +101,7 @@ client() {
 # The files for editors, and what makes these find them: Neovim and Vim by :packadd, Emacs at its start.
 editors() {
     share=usr/share/$name/editors
-    (cd "$top/client/editors/vim" && find . -type f) | while read -r file; do
-        put 644 "$top/client/editors/vim/$file" "$share/vim/$(dirname "$file")"
-    done
+    put_files_of client/editors/vim "$share/vim"
     for pack in nvim/site vim/vimfiles; do
         mkdir -p "$root/usr/share/$pack/pack/dist-bundle/opt"
         ln -s "../../../../../$name/editors/vim" "$root/usr/share/$pack/pack/dist-bundle/opt/$name"
@@ -109,8 +125,10 @@ completion() { # NAME PROGRAM
 documents() {
     doc=usr/share/doc/$name
     put 644 "$top/README.md" "$top/CHANGELOG.md" "$top/packaging/copyright" "$doc"
-    put 644 "$top"/docs/*.md "$top"/docs/*.png "$top"/docs/*.json "$doc/docs"
-    cp -R "$top/examples" "$root/$doc"
+    files_in docs | grep -E '^[^/]*\.(md|png|json)$' | while IFS= read -r file; do
+        put 644 "$top/docs/$file" "$doc/docs"
+    done
+    put_files_of examples "$doc/examples"
     printf '%s (%s) unstable; urgency=medium\n\n  * CHANGELOG.md tells what changed.\n\n -- %s  %s\n' \
         "$name" "$version" "$(sed -n 's/^Maintainer: //p' "$top/packaging/control")" "$(date -u -R -d "@$SOURCE_DATE_EPOCH")" |
         gzip -9n >"$root/$doc/changelog.gz"

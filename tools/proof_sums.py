@@ -11,7 +11,7 @@ import sys
 from collections.abc import Iterator
 
 import stamps
-from kit import find_kit_command_on_path, id_file_in_folder_of_kit, kit_id_on_path
+from kit import find_kit_command_on_path, kit_id_path_beside_folder_of_command, kit_id_on_path_or_none_without_rt
 from source_sums import (
     HANDLES,
     TABLE,
@@ -57,7 +57,7 @@ def is_proved_keeping_stamps(top: str, program: str) -> bool:
     """
     path = program_path(program)
     kept = read_or_empty(f"{top}/{path}.sums")
-    here = kit_id_on_path()
+    here = kit_id_on_path_or_none_without_rt()
     name = kit_in_sums_or_empty(kept) if here is None else here
     if not name or not os.access(f"{top}/{path}", os.X_OK):
         return False
@@ -107,7 +107,7 @@ def paths_deciding_proof(top: str, program: str) -> Iterator[str]:
     yield from (f"{top}/{it}" for it in (TABLE, HANDLES, path, f"{path}.sums"))
     command = find_kit_command_on_path()
     if command is not None:
-        yield from (os.path.abspath(command), id_file_in_folder_of_kit(command))
+        yield from (os.path.abspath(command), kit_id_path_beside_folder_of_command(command))
     with contextlib.suppress(Unreadable):
         yield from (
             f"{top}/{it}" for it, _ in paths_and_kinds_read_by_proof(top, program) if it not in (TABLE, HANDLES)
@@ -119,7 +119,7 @@ def print_program_path_sums_or_files(top: str, arguments: list[str]) -> int:
     *options, program = arguments
     message = f"{program} isn't proved and built, or has changed since: run ./prove {program}"
     try:
-        octets = path_sums_or_files_to_print(options, top, program)
+        octets = octets_to_print_of_path_sums_or_files(options, top, program)
     except NoFile as why:
         octets, message = b"", f"{program} isn't proved: {why}"
     except Unreadable as why:
@@ -131,10 +131,12 @@ def print_program_path_sums_or_files(top: str, arguments: list[str]) -> int:
     return 0
 
 
-def path_sums_or_files_to_print(options: list[str], top: str, program: str) -> bytes:
+def octets_to_print_of_path_sums_or_files(options: list[str], top: str, program: str) -> bytes:
     """The octets to print with these options; without options there are none where the program isn't proved."""
     if options == ["--files"]:
         return b"".join(os.fsencode(it) + b"\0" for it in paths_deciding_proof(top, program))
     if options == ["--sums"]:
-        return checksum_lines_in_given_order(proof_source_sums_by_path(top, program)) + kit_line(kit_id_on_path() or "")
+        return checksum_lines_in_given_order(proof_source_sums_by_path(top, program)) + kit_line(
+            kit_id_on_path_or_none_without_rt() or ""
+        )
     return os.fsencode(f"{top}/{program_path(program)}\n") if is_proved_keeping_stamps(top, program) else b""

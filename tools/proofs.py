@@ -186,7 +186,7 @@ def find_number_matching_pattern_in_file(file: str, pattern: str) -> int | None:
     return None
 
 
-def free_memory() -> int:
+def free_memory_within_machine_and_cgroup() -> int:
     """The octets that may still be taken here, within the limit of the group of processes too."""
     free = 1024 * (find_number_matching_pattern_in_file("/proc/meminfo", r"^MemAvailable:\s+(\d+)") or 0)
     limit = find_number_matching_pattern_in_file("/sys/fs/cgroup/memory.max", r"^(\d+)$")
@@ -194,9 +194,9 @@ def free_memory() -> int:
     return free if limit is None else min(free, limit - (taken or 0))
 
 
-def fits_two_lanes() -> bool:
+def has_processors_and_memory_for_two_lanes() -> bool:
     """Whether there are the processors and the memory for two lanes."""
-    return len(os.sched_getaffinity(0)) >= 2 * JOBS and free_memory() >= FOLDER
+    return len(os.sched_getaffinity(0)) >= 2 * JOBS and free_memory_within_machine_and_cgroup() >= FOLDER
 
 
 def times_file() -> Path:
@@ -316,7 +316,9 @@ def crate_and_kind_of_work_of_process(words: list[str], folder: str) -> Work | N
     return (os.path.basename(folder), "proof") if re.search(r"/crates/\w+$", folder) else None
 
 
-def record_work_and_time_of_process_tree(seen: SeenProcesses, root: psutil.Process, now: float, passed: float) -> None:
+def record_work_and_time_once_of_process_tree(
+    seen: SeenProcesses, root: psutil.Process, now: float, passed: float
+) -> None:
     """Looks at a process and those below it, at a moment by the clock, so many seconds after the last look."""
     import psutil
 
@@ -387,7 +389,7 @@ def run_and_print_cost(command: list[str], clone: Path) -> int:
     started = subprocess.Popen(command, cwd=clone, stdin=subprocess.DEVNULL, stdout=sys.stderr)
     while started.poll() is None:
         before, now = now, time.monotonic() - began
-        record_work_and_time_of_process_tree(seen, psutil.Process(started.pid), now, now - before)
+        record_work_and_time_once_of_process_tree(seen, psutil.Process(started.pid), now, now - before)
         time.sleep(0.5)
     used = os.times()
     uses = parse_dependencies_between_crates((clone / "crates.txt").read_text())

@@ -48,7 +48,7 @@ from proofs import (
     Unproved,
     remaining_crates_and_minutes_in_words,
     replace_all_parts_linking_or_copying,
-    fits_two_lanes,
+    has_processors_and_memory_for_two_lanes,
     lock_crate,
     times_key_by_whether_incremental_is_kept,
     moment_of_last_proof_or_zero,
@@ -120,7 +120,7 @@ class Work:
         )
         return self.expected[crate] + above
 
-    def prove_all(self, lanes: list[Lane]) -> None:
+    def prove_all_keeping_parts_of_stopped_proofs(self, lanes: list[Lane]) -> None:
         """Proves the crates, one in each lane at a time."""
         pool = ThreadPoolExecutor(len(lanes))
         try:
@@ -166,7 +166,7 @@ class Work:
         out = it.lane.out_folder_of_crate_in_lane(it.crate)
         write_definitions_of_last_proof(out, folders_of_crate_and_below(it.lane.tree, it.crate, self.uses))
         if is_program(it.lane.tree, it.crate):
-            self.write_program_and_source_sums_file(it.crate, it.lane.tree)
+            self.write_sums_of_program_and_its_sources(it.crate, it.lane.tree)
         else:
             for other in (lane for lane in lanes if lane.tree != it.lane.tree):
                 replace_all_parts_linking_or_copying(
@@ -189,7 +189,7 @@ class Work:
         if moment_of_last_proof_or_zero(it.lane.out_folder_of_crate_in_lane(it.crate)) >= it.begun:
             self.times.keep_seconds(it.key, time.time() - it.begun)
 
-    def write_program_and_source_sums_file(self, program: str, tree: Path) -> None:
+    def write_sums_of_program_and_its_sources(self, program: str, tree: Path) -> None:
         """Keeps the checksums of a program and of what its proof read beside it."""
         path = proof_sums.program_path(program)
         read = {it: self.sums[it] for it in sources_of_proof(str(tree), program)}
@@ -211,7 +211,7 @@ def is_program(tree: Path, crate: str) -> bool:
     return (tree / "crates" / crate / "src" / "main.rt").exists()
 
 
-def prove_in_lanes_and_describe_change(
+def prove_in_lanes_and_name_file_edited_since(
     named: list[str], uses: dict[str, list[str]], lanes: int, kit: ProvingKit
 ) -> str | None:
     """Proves crates and those below them. If the tree has other files than their proofs read, the answer says so."""
@@ -227,7 +227,7 @@ def prove_in_lanes_and_describe_change(
         work = Work(kit, read, Path(folder), uses, list(crates), times, times.expected_seconds_by_crate(uses))
         flags = ["--jobs", str(JOBS)] if lanes > 1 else []
         try:
-            work.prove_all([Lane(copy, kit.command, flags) for copy in copies])
+            work.prove_all_keeping_parts_of_stopped_proofs([Lane(copy, kit.command, flags) for copy in copies])
         except KeyboardInterrupt:
             raise Interrupted(" and ".join(it.crate for it in work.running.values())) from None
     try:
@@ -288,14 +288,14 @@ def print_and_write_refusal_for_editors(crate: str, uses: dict[str, list[str]]) 
         beside.replace(REFUSED)
 
 
-def prove_and_keep_programs_or_raise(named: list[str], every: list[str], lanes: int) -> None:
+def prove_crates_then_copy_all_proved_programs(named: list[str], every: list[str], lanes: int) -> None:
     """Proves crates that are named, those that aren't proved, by the kit that is there before and after."""
     kit = proving_kit.kit_whose_version_matches_its_file()
     with lock_tree():
         REFUSED.unlink(missing_ok=True)
         uses = parse_dependencies_between_crates((TOP / TABLE).read_text())
         left = [it for it in named if not (is_program(TOP, it) and proof_sums.is_proved_keeping_stamps(str(TOP), it))]
-        changed = prove_in_lanes_and_describe_change(left, uses, lanes, kit) if left else None
+        changed = prove_in_lanes_and_name_file_edited_since(left, uses, lanes, kit) if left else None
         # Also where nothing was left to prove, and by what its command says.
         kit.check_unchanged()
         proving_kit.kit_whose_version_matches_its_file()
@@ -325,9 +325,11 @@ def main() -> int:
     named = list(dict.fromkeys(options.crates)) or every
     for unknown in (it for it in named if it not in uses):
         parser.error(f"there is no crate {unknown}; there are {', '.join(uses)}")
-    signals.raise_at_first_signal()
+    signals.install_handlers_raising_at_first_signal()
     try:
-        prove_and_keep_programs_or_raise(named, every, options.lanes or (2 if fits_two_lanes() else 1))
+        prove_crates_then_copy_all_proved_programs(
+            named, every, options.lanes or (2 if has_processors_and_memory_for_two_lanes() else 1)
+        )
         print_proved_programs_and_libraries(named)
     except Unproved as crate:
         print_and_write_refusal_for_editors(str(crate), uses)

@@ -9,7 +9,7 @@ import os
 import sys
 
 import stamps
-from kit import kit_id_on_path
+from kit import kit_id_on_path_or_none_without_rt
 
 TOP = os.path.dirname(os.path.dirname(os.path.realpath(__file__)))
 
@@ -18,7 +18,7 @@ def are_stamps_unchanged_since_proved(program: str) -> bool:
     """Whether nothing has changed since a program was found to be proved."""
     try:
         with open(f"{TOP}/crates/{program}/out/{program}.stamps", "rb", buffering=0) as file:
-            return stamps.are_stamps_unchanged(TOP, program, kit_id_on_path(), file.read())
+            return stamps.are_stamps_unchanged(TOP, program, kit_id_on_path_or_none_without_rt(), file.read())
     except OSError:
         return False
 

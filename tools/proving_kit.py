@@ -7,7 +7,7 @@ import subprocess
 from dataclasses import dataclass
 from pathlib import Path
 
-from kit import find_kit_command_on_path, id_file_in_folder_of_kit, read_kit_id_file_or_empty
+from kit import find_kit_command_on_path, kit_id_path_beside_folder_of_command, read_kit_id_file_or_empty
 from stamps import stamps_of
 
 
@@ -34,7 +34,7 @@ def kit_on_path_or_refuse() -> ProvingKit:
     command = find_kit_command_on_path()
     if command is None:
         raise ProofRefusedError("the Rattle kit's command 'rt' has to be on the PATH")
-    place = Path(id_file_in_folder_of_kit(command))
+    place = Path(kit_id_path_beside_folder_of_command(command))
     name = read_kit_id_file_or_empty(command)
     if not name:
         raise ProofRefusedError(f"{command} is of no kit: {place} doesn't say which")
@@ -55,7 +55,6 @@ def kit_whose_version_matches_its_file() -> ProvingKit:
     if printed.returncode:
         raise ProofRefusedError(f"{call} ends with status {printed.returncode}")
     if " ".join(printed.stdout.split()) != it.name:
-        raise ProofRefusedError(
-            f"{call} prints {printed.stdout.strip()!r}, and {id_file_in_folder_of_kit(it.command)} has {it.name!r}"
-        )
+        place = kit_id_path_beside_folder_of_command(it.command)
+        raise ProofRefusedError(f"{call} prints {printed.stdout.strip()!r}, and {place} has {it.name!r}")
     return it

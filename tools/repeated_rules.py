@@ -72,7 +72,7 @@ def is_body_at_with_any_arguments(it: Definition, words: list[str], at: int) -> 
     return True
 
 
-def definitions_repeated_in_proof(each: list[Definition], path: Path) -> Iterator[tuple[int, str]]:
+def lines_and_messages_of_repeats_in_proof(each: list[Definition], path: Path) -> Iterator[tuple[int, str]]:
     """The rules that one file repeats, with its lines."""
     text = path.read_text(encoding="utf-8")
     found = [
@@ -105,7 +105,7 @@ def main(crates: list[str]) -> int:
     for path in sorted(TOP.glob("crates/*/proofs/**/*.antt")):
         name = path.relative_to(TOP)
         if not crates or name.parts[1] in crates:
-            for line, what in sorted(set(definitions_repeated_in_proof(each, path))):
+            for line, what in sorted(set(lines_and_messages_of_repeats_in_proof(each, path))):
                 print(f"{name}:{line}: {what}")
     return 0
 

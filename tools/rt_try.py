@@ -110,7 +110,7 @@ def run_cases(
     case_folder = folder / "cases"
     case_folder.mkdir()
     for name, case in zip(names, cases):
-        write_case(case_folder / name.decode(), case)
+        write_case_input_and_arguments(case_folder / name.decode(), case)
     options = [b"--seconds", b"%d" % seconds, b"--cases", os.fsencode(case_folder)]
     options += [] if steps is None else [b"--steps", b"%d" % steps]
     called = run_program_crate_by_rt_try(
@@ -124,7 +124,7 @@ def run_cases(
     ]
 
 
-def write_case(file: Path, case: TryCase) -> None:
+def write_case_input_and_arguments(file: Path, case: TryCase) -> None:
     """Writes a case as `rt try --cases` reads it."""
     if any(b"\n" in it for it in case.arguments):
         raise ValueError("an argument of a case has a newline")

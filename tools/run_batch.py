@@ -72,7 +72,7 @@ def rewrite_temporary_paths_to_source_tree(printed: bytes, folder: Path, tree: P
     return printed.replace(os.fsencode(folder / "crates"), os.fsencode(tree / "crates"))
 
 
-def run_batch(options: argparse.Namespace, tree: Path) -> None:
+def run_start_files_and_write_answer_files(options: argparse.Namespace, tree: Path) -> None:
     """Builds, starts and answers."""
     files = sorted(options.starts.iterdir())
     cases = [rt_try.TryCase((), it.read_bytes()) for it in files]
@@ -100,9 +100,9 @@ def main() -> int:
     parser.add_argument("starts", metavar="STARTS", type=Path)
     parser.add_argument("answers", metavar="ANSWERS", type=Path)
     options = parser.parse_args()
-    signals.raise_at_first_signal()
+    signals.install_handlers_raising_at_first_signal()
     try:
-        run_batch(options, options.tree.absolute())
+        run_start_files_and_write_answer_files(options, options.tree.absolute())
     except rt_try.NotRunError as error:
         print(f"{PROGRAM}: unproved: {error}", file=sys.stderr)
         sys.stderr.flush()

@@ -25,10 +25,13 @@ FAULT = 2
 def read_cases_by_name_in_folder(folder: Path) -> dict[str, rt_try.TryCase]:
     """The cases of a folder by their names."""
     files = sorted(it for it in folder.iterdir() if it.suffix != ".args")
-    return {it.name: rt_try.TryCase(read_arguments(it.with_name(f"{it.name}.args")), it.read_bytes()) for it in files}
+    return {
+        it.name: rt_try.TryCase(read_case_arguments_one_per_line(it.with_name(f"{it.name}.args")), it.read_bytes())
+        for it in files
+    }
 
 
-def read_arguments(file: Path) -> tuple[bytes, ...]:
+def read_case_arguments_one_per_line(file: Path) -> tuple[bytes, ...]:
     return tuple(file.read_bytes().split(b"\n")[:-1])
 
 
@@ -44,7 +47,7 @@ def write_result(folder: Path, name: str, result: rt_try.TryResult) -> None:
         (folder / f"{name}.status").write_text(f"{result.name}: {result.why}")
 
 
-def run_cases_by_one_rt_try(options: argparse.Namespace) -> None:
+def run_cases_by_one_rt_try_and_write_results(options: argparse.Namespace) -> None:
     cases = read_cases_by_name_in_folder(options.cases)
     with tempfile.TemporaryDirectory(prefix=f"{options.program}-") as folder:
         arguments = [os.fsencode(it) for it in options.arguments]
@@ -64,9 +67,9 @@ def main() -> int:
     parser.add_argument("answers", metavar="ANSWERS", type=Path)
     parser.add_argument("arguments", metavar="ARGUMENT", nargs="*", help="an argument of every case")
     options = parser.parse_args()
-    signals.raise_at_first_signal()
+    signals.install_handlers_raising_at_first_signal()
     try:
-        run_cases_by_one_rt_try(options)
+        run_cases_by_one_rt_try_and_write_results(options)
     except rt_try.NotRunError as error:
         print(f"{options.program}: unproved: {error}", file=sys.stderr)
         sys.stderr.flush()

@@ -11,6 +11,7 @@ from __future__ import annotations
 
 import contextlib
 import os
+import shlex
 import signal
 import sys
 import tempfile
@@ -56,8 +57,8 @@ def write_all_octets_or_false(descriptor: int, octets: bytes) -> bool:
 
 
 def prove_command(program: str) -> str:
-    """The command that proves a program, as it is written from here."""
-    command = str(rt_try.TOP / "prove")
+    """The command that proves a program, as a shell takes it from here."""
+    command = shlex.quote(str(rt_try.TOP / "prove"))
     with contextlib.suppress(OSError):
         if rt_try.TOP == Path.cwd():
             command = "./prove"
@@ -166,7 +167,7 @@ def open_closed_streams() -> None:
 def main() -> int:
     open_closed_streams()
     program, *arguments = sys.argv[1:]
-    signals.raise_at_first_signal()
+    signals.install_handlers_raising_at_first_signal()
     try:
         rt_try.check_kit_on_path()
         check_arguments_are_text(arguments)

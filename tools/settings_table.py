@@ -61,7 +61,7 @@ def parse_settings_from_rows_and_words(rows: str, words: str) -> Iterator[Settin
         yield Setting(key, ends, unit, choice, named.get(unset, unset))
 
 
-def page_table(rows: list[Setting]) -> str:
+def page_table_keeping_last_two_columns(rows: list[Setting]) -> str:
     """The table of the page, with the last two columns of the page as they are."""
     lines = (line.split("|") for line in PAGE.read_text(encoding="utf-8").splitlines())
     kept = {cells[1].strip(" `"): "|".join(cells[5:7]) for cells in lines if len(cells) == 8}
@@ -80,13 +80,13 @@ def render_client_defaults_as_python(rows: list[Setting]) -> str:
     def value(word: str) -> str:
         return word.capitalize() if word in ("true", "false") else f'"{word}"'
 
-    def row(it: Setting) -> str:
+    def number_or_word_expression(it: Setting) -> str:
         if it.ends:
             return f'Number({int(it.default):_}, {it.ends[0]:_}, {it.ends[1]:_}, "{it.unit}")'
         words = "" if "true" in it.words else f", ({', '.join(map(value, it.words))})"
         return f"Word({value(it.default)}{words})"
 
-    lines = (f'    "{it.key}": {row(it)},\n' for it in rows)
+    lines = (f'    "{it.key}": {number_or_word_expression(it)},\n' for it in rows)
     return f"KEYS: dict[str, Number | Word] = {{\n{''.join(lines)}}}\n"
 
 
@@ -107,7 +107,7 @@ def man_page_items(rows: list[Setting]) -> str:
     )
 
 
-MADE = {"page": page_table, "client": render_client_defaults_as_python, "man": man_page_items}
+MADE = {"page": page_table_keeping_last_two_columns, "client": render_client_defaults_as_python, "man": man_page_items}
 
 
 def main(arguments: list[str]) -> int:

@@ -16,7 +16,7 @@ class StoppedBySignal(KeyboardInterrupt):
         self.number = number
 
 
-def raise_at_first_signal() -> None:
+def install_handlers_raising_at_first_signal() -> None:
     """Lets the first signal raise `StoppedBySignal`. One that is ignored, as `nohup` ignores one, stays so."""
     for number in SIGNALS:
         if signal.getsignal(number) != signal.SIG_IGN:

@@ -50,7 +50,16 @@ def made_part_of(page: Page, made: Made) -> str | None:
     return part if begin and end else None
 
 
-def compare_made_parts(top: Path, pages: dict[str, Page]) -> Iterator[tuple[str, str | None]]:
+def text_with_made_part(page: Page, made: Made, part: str) -> str:
+    """The text of a page, with another part between its lines."""
+    if made.begin is None or made.end is None:
+        return part
+    before, begin, rest = page.text.partition(f"\n{made.begin}\n")
+    _, end, after = rest.partition(f"{made.end}\n")
+    return f"{before}{begin}{part}{end}{after}"
+
+
+def each_made_part_with_its_fault_or_none(top: Path, pages: dict[str, Page]) -> Iterator[tuple[str, str | None]]:
     """Each part with what is wrong with it."""
     for made in MADE:
         name = f"{made.page} is what {' '.join(made.command)} makes"
@@ -69,7 +78,6 @@ def write_made_parts(top: Path, pages: dict[str, Page]) -> None:
     """Puts into the files what the tools print."""
     for made in MADE:
         page = page_or_file(top, pages, made.page)
-        part, new = (made_part_of(page, made), run_tool(page, made)) if page else (None, "")
-        if page is not None and part is not None:
-            text = page.text.replace(part, new, 1) if made.begin and part else new
+        if page is not None and made_part_of(page, made) is not None:
+            text = text_with_made_part(page, made, run_tool(page, made))
             (page.top / page.path).write_text(text, encoding="utf-8")

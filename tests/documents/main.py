@@ -17,12 +17,12 @@ from collections.abc import Iterator
 from itertools import chain
 from pathlib import Path
 
-from documents.made import compare_made_parts, write_made_parts
+from documents.made import each_made_part_with_its_fault_or_none, write_made_parts
 from documents.pages import Page, broken_links, broken_page_names, read_pages, tracked_files
-from documents.promises import broken_reading_lists, unknown_functions, wrong_mutants
+from documents.promises import reading_lists_naming_unknown_functions, unknown_functions, unknown_or_unnamed_mutants
 from documents.shown import KINDS, UNPROVED, commands_shown_in
 from documents.sources import files_without_head
-from documents.walking import run_shown_commands
+from documents.walking import run_shown_commands_and_yield_each_step
 from documents.words import page_length_lines, past_words_and_commits
 
 TOP = Path(__file__).resolve().parents[2]
@@ -32,7 +32,7 @@ WALKED = ("README.md", "docs/TUTORIAL.md")
 Test = tuple[str, str | None]
 
 
-def join_or_none(lines: Iterator[str]) -> str | None:
+def join_fault_lines_or_none(lines: Iterator[str]) -> str | None:
     """The lines of faults as one text, or None where there are none."""
     return "\n".join(lines) or None
 
@@ -40,21 +40,21 @@ def join_or_none(lines: Iterator[str]) -> str | None:
 def test_pages(files: list[Path], pages: dict[str, Page]) -> Iterator[Test]:
     """The tests that only read the pages."""
     for name, page in pages.items():
-        yield f"links of {name}", join_or_none(broken_links(pages, page))
-        yield f"no log in {name}", join_or_none(past_words_and_commits(page))
-    yield "pages that other files name", join_or_none(broken_page_names(TOP, pages, files))
+        yield f"links of {name}", join_fault_lines_or_none(broken_links(pages, page))
+        yield f"no log in {name}", join_fault_lines_or_none(past_words_and_commits(page))
+    yield "pages that other files name", join_fault_lines_or_none(broken_page_names(TOP, pages, files))
     for name in WALKED:
         if name in pages:
             yield from test_unproved_lines(pages[name])
-    yield from compare_made_parts(TOP, pages)
+    yield from each_made_part_with_its_fault_or_none(TOP, pages)
     if promises := pages.get("docs/PROMISES.md"):
-        yield "functions of docs/PROMISES.md", join_or_none(unknown_functions(promises))
-        yield "mutants of docs/PROMISES.md", join_or_none(wrong_mutants(promises, files))
-    yield "reading lists", join_or_none(broken_reading_lists())
-    yield "first lines of sources", join_or_none(files_without_head(TOP, files))
+        yield "functions of docs/PROMISES.md", join_fault_lines_or_none(unknown_functions(promises))
+        yield "mutants of docs/PROMISES.md", join_fault_lines_or_none(unknown_or_unnamed_mutants(promises, files))
+    yield "reading lists", join_fault_lines_or_none(reading_lists_naming_unknown_functions())
+    yield "first lines of sources", join_fault_lines_or_none(files_without_head(TOP, files))
 
 
-def unproved_line(program: str) -> str:
+def run_with_dummy_kit_and_read_first_line(program: str) -> str:
     """The first line of a program that runs without its proofs: here with a kit that does nothing."""
     with tempfile.TemporaryDirectory() as kit:
         (Path(kit) / "rt").symlink_to("/bin/false")
@@ -75,11 +75,11 @@ def test_unproved_lines(page: Page) -> Iterator[Test]:
     """The lines that a page shows of programs that run without their proofs."""
     for shown in commands_shown_in(page.text):
         for line in filter(UNPROVED.match, shown.wanted):
-            now = unproved_line(line.partition(":")[0])
+            now = run_with_dummy_kit_and_read_first_line(line.partition(":")[0])
             yield f"{page.name}:{shown.line}: the line `unproved`", None if line == now else f"it is now\n{now}"
 
 
-def copy_built_tree(files: list[Path], folder: Path) -> str | None:
+def copy_tree_with_programs_or_say_unbuilt(files: list[Path], folder: Path) -> str | None:
     """Copies the tree with the built programs into a folder; the answer says which isn't built, if one isn't."""
     for path in files:
         (folder / path.parent).mkdir(parents=True, exist_ok=True)
@@ -104,10 +104,10 @@ def test_commands(files: list[Path], page: Page) -> Iterator[Test]:
         return
     with tempfile.TemporaryDirectory() as work:
         tree = Path(work) / "pdregress"
-        if why := copy_built_tree(files, tree):
+        if why := copy_tree_with_programs_or_say_unbuilt(files, tree):
             yield f"commands of {page.name}", why
             return
-        for step in run_shown_commands(steps, tree, SECONDS, is_proved=True):
+        for step in run_shown_commands_and_yield_each_step(steps, tree, SECONDS, is_proved=True):
             name = f"{page.name}:{step.shown.line}: {step.shown.command.partition(chr(10))[0] or 'what watch prints'}"
             printed = step.printed_instead
             yield name, None if printed is None else f"it isn't shown that this is printed:\n{printed}"

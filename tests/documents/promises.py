@@ -29,7 +29,7 @@ def unknown_functions(page: Page) -> Iterator[str]:
         yield f"{page.name}: {name}: there is no such public function"
 
 
-def wrong_mutants(page: Page, files: list[Path]) -> Iterator[str]:
+def unknown_or_unnamed_mutants(page: Page, files: list[Path]) -> Iterator[str]:
     """A line for each mutant that the page names and no crate has, and for each of the gate that it doesn't name."""
     crates = {path.parts[1] for path in files if path.parts[0] == "crates"}
     named = {name for line in MUTANTS.findall(page.text) for name in NAME.findall(line)} - crates
@@ -41,7 +41,7 @@ def wrong_mutants(page: Page, files: list[Path]) -> Iterator[str]:
         yield f"{page.name} doesn't name the mutant {name}, which the gate tries"
 
 
-def broken_reading_lists() -> Iterator[str]:
+def reading_lists_naming_unknown_functions() -> Iterator[str]:
     """A line for each reading list whose functions or clauses aren't there."""
     index = read_index_of_names_in_all_crates()
     for name, functions in LISTS.items():

@@ -62,18 +62,20 @@ class WatchCommand:
         )
         self._lines: list[bytes] = []
         self._taken = 0
-        self._reader = threading.Thread(target=_gather_lines, args=(self._process.stdout, self._lines))
+        self._reader = threading.Thread(target=_gather_lines_but_unproved, args=(self._process.stdout, self._lines))
         self._reader.start()
 
-    def await_output(self, form: re.Pattern[str], seconds: float = MINUTE) -> str | None:
+    def await_output_or_return_what_came(self, form: re.Pattern[str], seconds: float = MINUTE) -> str | None:
         """Waits for what fits as the next that it prints; None if it comes, else what came in its place."""
         until = time.monotonic() + seconds
         while True:
+            # Looked at first: what came until the end is in the lines then.
+            has_ended = self._process.poll() is not None and not self._reader.is_alive()
             news = b"".join(self._lines[:]).decode(errors="replace")[self._taken :]
             if found := form.match(news):
                 self._taken += found.end()
                 return None
-            if time.monotonic() > until or self._process.poll() is not None and not self._reader.is_alive():
+            if has_ended or time.monotonic() > until:
                 return news
             time.sleep(0.02)
 
@@ -88,7 +90,7 @@ class WatchCommand:
         self._reader.join()
 
 
-def _gather_lines(pipe: IO[bytes] | None, lines: list[bytes]) -> None:
+def _gather_lines_but_unproved(pipe: IO[bytes] | None, lines: list[bytes]) -> None:
     assert pipe is not None
     for line in iter(pipe.readline, b""):
         if not UNPROVED.match(line.decode(errors="replace")):

@@ -19,7 +19,9 @@ class Step:
     seconds: float
 
 
-def run_shown_commands(steps: list[Shown], tree: Path, seconds: float, is_proved: bool) -> Iterator[Step]:
+def run_shown_commands_and_yield_each_step(
+    steps: list[Shown], tree: Path, seconds: float, is_proved: bool
+) -> Iterator[Step]:
     """Runs the commands in order. Where all is proved, those that take the prover are left to who walks without."""
     shell = Shell(tree)
     with ExitStack() as stack:
@@ -34,7 +36,7 @@ def run_shown_commands(steps: list[Shown], tree: Path, seconds: float, is_proved
                     stack.callback(watching.interrupt)
                 patience = MINUTE if shown.kind == WATCH else seconds
                 printed_instead = (
-                    watching.await_output(pattern_of_output(shown.wanted), patience)
+                    watching.await_output_or_return_what_came(pattern_of_output(shown.wanted), patience)
                     if watching
                     else "nothing is watched"
                 )

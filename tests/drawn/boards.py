@@ -112,14 +112,14 @@ class BoardCalls:
         elif kind == 5 and self.is_once_in(self.mix.expiries):
             yield from self.expire()
         elif kind == 6:
-            self.board.skip()
+            self.board.skip_sacked_octets_at_next()
             yield "skip"
         elif kind == 7:
-            yield self.restart()
+            yield self.start_sending_perhaps_after_idle()
         else:
             yield from self.acknowledge()
 
-    def restart(self) -> str:
+    def start_sending_perhaps_after_idle(self) -> str:
         """Sending begins, after an idle time or without one."""
         is_idle = self.is_once_in(2)
         if is_idle:
@@ -147,7 +147,7 @@ class BoardCalls:
     def expire(self) -> Iterator[str]:
         """The timer expires."""
         self.window.expire(self.board)
-        segment = self.board.segment_at(self.board.una)
+        segment = self.board.resent_segment_up_to_next_sacked(self.board.una)
         self.counts["expire"] += 1
         yield f"expire {written_answers(segment)}"
         yield self.sent(segment[1])
@@ -173,23 +173,23 @@ class BoardCalls:
         self.counts["silent" if is_silent else then] += 1
         news = ack.has_new_sack if window.rules.has_sack else None
         yield f"hear {written_answers(acked, ack.rwnd, ack.is_same_window, news)} {then} {written_answers(segment)}"
-        yield from self.respond(then, segment, ack.rwnd)
+        yield from self.send_what_ack_leads_to(then, segment, ack.rwnd)
 
-    def respond(self, then: str, segment: Span | None, rwnd: int) -> Iterator[str]:
+    def send_what_ack_leads_to(self, then: str, segment: Span | None, rwnd: int) -> Iterator[str]:
         """Sends what an ACK leads to."""
         if then == "segment" and segment:
             yield self.sent(segment[1])
         elif then == "limited":
             yield from self.transmit_limited(rwnd)
         elif then == "entry":
-            yield self.pace()
-            yield f"enter {written_answers(self.window.enter(self.board))}"
-            yield from self.recover(rwnd)
+            yield self.set_cwnd_by_prr_if_chosen()
+            yield f"enter {written_answers(self.window.take_first_segment_of_recovery(self.board))}"
+            yield from self.send_by_next_seg_while_pipe_has_room(rwnd)
         elif then == "step-c":
-            yield self.pace()
-            yield from self.recover(rwnd)
+            yield self.set_cwnd_by_prr_if_chosen()
+            yield from self.send_by_next_seg_while_pipe_has_room(rwnd)
 
-    def pace(self) -> str:
+    def set_cwnd_by_prr_if_chosen(self) -> str:
         """By PRR the window is set, before anything is sent."""
         window = self.window
         pipe = self.board.pipe(window.high_rxt)
@@ -197,7 +197,7 @@ class BoardCalls:
             self.counts[rule] += 1
         return f"pace {written_answers(pipe, window.cwnd, window.prr_delivered, window.prr_out)}"
 
-    def recover(self, rwnd: int) -> Iterator[str]:
+    def send_by_next_seg_while_pipe_has_room(self, rwnd: int) -> Iterator[str]:
         """Step C."""
         pipe = self.board.pipe(self.window.high_rxt)
         yield f"pipe {pipe}"
@@ -211,7 +211,7 @@ class BoardCalls:
             yield f"next {written_answers(rwnd, pipe)} {rule} {written_answers(segment)}"
             if rule == "new":
                 yield self.sent(segment[1])
-            self.window.note(rule, segment)
+            self.window.note_segment_sent_by_rule(rule, segment)
             pipe += size([segment])
 
     def transmit_limited(self, rwnd: int) -> Iterator[str]:
@@ -219,7 +219,7 @@ class BoardCalls:
         pipe = self.board.pipe(self.window.high_rxt)
         yield f"pipe {pipe}"
         for _ in range(SEGMENTS):
-            segment = self.board.new_segment(rwnd) if self.window.has_room(pipe) else None
+            segment = self.board.new_segment_if_whole_in_rwnd(rwnd) if self.window.has_room(pipe) else None
             yield f"limited {written_answers(rwnd, pipe, segment)}"
             if not segment:
                 return
@@ -232,8 +232,10 @@ class BoardCalls:
         board, window = self.board, self.window
         octet, high_rxt = self.between(board.una, board.top), self.between(board.una, board.top)
         numbers = written_answers(board.una, board.next, board.top, board.end, window.cwnd, window.is_recovering)
-        about = written_answers(octet, octet < board.lost_below(), board.segment_at(octet)[1])
-        behind = written_answers(high_rxt, board.pipe(high_rxt), board.lost_hole(high_rxt), board.hole(high_rxt))
+        about = written_answers(octet, octet < board.lost_below(), board.resent_segment_up_to_next_sacked(octet)[1])
+        behind = written_answers(
+            high_rxt, board.pipe(high_rxt), board.first_lost_hole_start(high_rxt), board.first_hole_start(high_rxt)
+        )
         last = board.lost()[-1][1] if board.lost() else 0
         return f"all {numbers} {self.runs()} {about} {behind} {written_answers(board.rescue(), last)}"
 
@@ -249,7 +251,7 @@ def rows(mix: Mix, seed: int, amount: Amount) -> Iterator[str]:
     """All rows: lists of calls, the title that ends them, and what they came to."""
     dice = SeededDice(seed)
     counts: Counter[str] = Counter()
-    for each in amount.of(list(BoardCalls(mix, dice, counts).rows()) for _ in repeat(None)):
+    for each in amount.take_lists_until_enough(list(BoardCalls(mix, dice, counts).rows()) for _ in repeat(None)):
         yield from each
     yield f"== lists of {mix.calls} calls"
     yield from (f"# {name} {counts[word]}" for word, name in NAMES.items() if counts[word])

@@ -14,7 +14,7 @@ from model.book import (
     Job,
     Model,
     Text,
-    lines_of,
+    text_as_printed_lines,
     settings_text,
 )
 
@@ -35,18 +35,18 @@ DRAWN = (
 
 
 @cache
-def sum_of(answer: str) -> int:
+def fnv_1a_hash_of(answer: str) -> int:
     """The hash by Fowler, Noll and Vo of 32 bits (FNV-1a)."""
     total = 2_166_136_261
     for piece in PIECES.findall(answer):
         low = total % 256
-        factor, rest = sum_of_piece(low, piece)
+        factor, rest = fnv_1a_factor_and_rest_of_piece(low, piece)
         total = ((total - low) * factor + rest) % 2**32
     return total
 
 
 @cache
-def sum_of_piece(low: int, piece: str) -> tuple[int, int]:
+def fnv_1a_factor_and_rest_of_piece(low: int, piece: str) -> tuple[int, int]:
     """The effect of a piece on a sum: a factor for all but its lowest eight bits, and what these, `low`, become.
 
     Each octet is mixed into the lowest eight bits alone, and then the whole sum is multiplied.
@@ -58,33 +58,33 @@ def sum_of_piece(low: int, piece: str) -> tuple[int, int]:
     return factor, rest
 
 
-def drawn_kind(dice: SeededDice) -> str:
+def draw_line_kind_mostly_passing(dice: SeededDice) -> str:
     """The kind of a line, mostly of one that passes."""
     kind = dice.below(210)
     return list(LINES)[kind] if kind < len(LINES) else "a"
 
 
-def drawn_kinds(dice: SeededDice, bound: int) -> Text:
+def draw_fewer_line_kinds_than(dice: SeededDice, bound: int) -> Text:
     """Fewer lines than so many."""
-    return "".join(drawn_kind(dice) for _ in range(dice.below(bound)))
+    return "".join(draw_line_kind_mostly_passing(dice) for _ in range(dice.below(bound)))
 
 
-def drawn_text(dice: SeededDice) -> Text:
+def draw_script_as_line_kinds(dice: SeededDice) -> Text:
     """Lines, in two of three texts after those that make a connection, with others between them."""
-    opening = "".join(kind + drawn_kinds(dice, 4) for kind in CONNECTION) if dice.below(3) else ""
-    return opening + drawn_kinds(dice, 16)
+    opening = "".join(kind + draw_fewer_line_kinds_than(dice, 4) for kind in CONNECTION) if dice.below(3) else ""
+    return opening + draw_fewer_line_kinds_than(dice, 16)
 
 
-def written(text: Text) -> str:
+def line_kinds_as_words_of_row(text: Text) -> str:
     """A text as a row writes it after other words: lines of kind `a` in a row as one word with their number."""
     parts = re.findall("a+|[^a]", text)
     return " " + " | ".join(part if len(part) == 1 else f"a{len(part)}" for part in parts) if text else ""
 
 
-def word_rows() -> Iterator[str]:
+def rows_defining_words_for_lines() -> Iterator[str]:
     """The rows that say for which lines words stand."""
     yield from (f"let {word} {line} -> ok" for word, line in LINES.items())
-    yield from (f"let a{count} {lines_of('a' * count)} -> ok" for count in range(2, LONGEST + 1))
+    yield from (f"let a{count} {text_as_printed_lines('a' * count)} -> ok" for count in range(2, LONGEST + 1))
 
 
 class BookLists:
@@ -96,7 +96,7 @@ class BookLists:
         self.spared = 0
         self.spared_behind = 0
 
-    def one_after_the_other(self) -> Iterator[list[str]]:
+    def drawn_lists_without_end(self) -> Iterator[list[str]]:
         """Lists without end."""
         while True:
             yield list(self.rows())
@@ -110,9 +110,9 @@ class BookLists:
             acts = len(model.acts)
             yield from self.call(model)
             if len(model.acts) != acts:
-                yield f"sum whole -> {sum_of(model.whole())}"
-        yield f"sum whole -> {sum_of(model.whole())}"
-        yield f"sum log -> {sum_of(model.log())}"
+                yield f"sum whole -> {fnv_1a_hash_of(model.whole())}"
+        yield f"sum whole -> {fnv_1a_hash_of(model.whole())}"
+        yield f"sum log -> {fnv_1a_hash_of(model.log())}"
         self.spared += model.spared
         self.spared_behind += model.spared_behind
 
@@ -121,18 +121,20 @@ class BookLists:
         script = f"s{self.dice.below(3)}"
         kind = self.dice.below(26)
         if kind < 3:
-            text = drawn_text(self.dice)
-            yield self.row("add", f" {script}{written(text)}", model.add(script, text))
+            text = draw_script_as_line_kinds(self.dice)
+            yield self.row("add", f" {script}{line_kinds_as_words_of_row(text)}", model.add(script, text))
         elif kind < 9:
             first, removed = self.dice.below(32), self.dice.below(3)
-            text = drawn_kind(self.dice) if self.dice.below(3) else ""
+            text = draw_line_kind_mostly_passing(self.dice) if self.dice.below(3) else ""
             yield self.row(
-                "edit", f" {script} {first} {removed}{written(text)}", model.edit(script, first, removed, text)
+                "edit",
+                f" {script} {first} {removed}{line_kinds_as_words_of_row(text)}",
+                model.edit(script, first, removed, text),
             )
         elif kind < 10:
             yield self.row("remove", f" {script}", model.remove(script))
         elif kind < 13:
-            key, value = self.setting()
+            key, value = self.draw_setting_key_and_value()
             yield self.row("set", f" {key} {value}", model.set(key, value))
         elif kind < 18:
             yield from self.start(model)
@@ -144,7 +146,7 @@ class BookLists:
         self.counts[call, answer] += 1
         return f"{call}{words} -> {answer}"
 
-    def setting(self) -> tuple[str, str]:
+    def draw_setting_key_and_value(self) -> tuple[str, str]:
         """One of the settings with one of its values; in one of eight what is refused."""
         match self.dice.below(16):
             case 0:
@@ -162,9 +164,9 @@ class BookLists:
             return
         self.counts["start", "a job"] += 1
         yield f"start -> {job.number} {job.script}, {len(job.text)} lines, {job.settings['tolerance_us']} us"
-        whole = f"{job.number} {job.script}, {settings_text(job.settings)}{lines_of(job.text)}"
-        yield f"sum job {job.number} -> {sum_of(whole)}"
-        yield f"run {job.number} -> {model.run(job)}"
+        whole = f"{job.number} {job.script}, {settings_text(job.settings)}{text_as_printed_lines(job.text)}"
+        yield f"sum job {job.number} -> {fnv_1a_hash_of(whole)}"
+        yield f"run {job.number} -> {model.run_job_with_its_track(job)}"
 
     def end(self, model: Model, kind: int, script: str) -> Iterator[str]:
         """The end of a job: of one of the last three, of any, or of another number."""
@@ -184,19 +186,23 @@ class BookLists:
             self.dice.below(3)
         ]
         job = Job(number, name, text, settings | {"tolerance_us": tolerance})
-        yield self.row("give", f" {number} {name} {tolerance}{written(text)}", model.give(job))
+        yield self.row(
+            "give",
+            f" {number} {name} {tolerance}{line_kinds_as_words_of_row(text)}",
+            model.refuse_foreign_result_of_job(job),
+        )
 
 
 def rows(seed: int, amount: Amount) -> Iterator[str]:
     """All rows: what is counted, the words that stand for lines, and the lists."""
     lists = BookLists(seed)
-    made = list(amount.of(lists.one_after_the_other()))
+    made = list(amount.take_lists_until_enough(lists.drawn_lists_without_end()))
     yield f"== {len(made)} random lists of {CALLS} calls"
     for (call, answer), count in sorted(lists.counts.items()):
         yield f"== {call}: {answer} {count}"
     yield f"== events not run again {lists.spared}"
     yield f"== of them behind another setting {lists.spared_behind}"
-    yield from word_rows()
+    yield from rows_defining_words_for_lines()
     for number, each in enumerate(made, 1):
         yield f"# list {number}"
         yield from each

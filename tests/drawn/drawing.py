@@ -23,7 +23,7 @@ class Amount:
     lists: int
     rows: int | None = None
 
-    def of(self, lists: Iterator[list[str]]) -> Iterator[list[str]]:
+    def take_lists_until_enough(self, lists: Iterator[list[str]]) -> Iterator[list[str]]:
         """The first lists of those that are drawn one after the other."""
         count = rows = 0
         while count < self.lists if self.rows is None else rows < self.rows:

@@ -12,30 +12,36 @@ FLAGS = {"F": 4, "S": 4, "R": 4, "P": 2}
 Part = tuple[str, str]
 
 
-def seconds(moment: int) -> str:
+def microseconds_as_seconds_text(moment: int) -> str:
     """Microseconds as seconds, with no more decimals than it takes."""
     return f"{moment // 1_000_000}.{moment % 1_000_000:06}".rstrip("0").rstrip(".")
 
 
-def moment(dice: SeededDice) -> int:
+def draw_microseconds(dice: SeededDice) -> int:
     """Microseconds below 3,600 s, often with few decimals."""
     return dice.below(3_600) * (1, 1_000, 100_000, 1_000_000)[dice.below(4)]
 
 
 def time(dice: SeededDice) -> Part:
     """A time."""
-    first = moment(dice)
-    last = first + moment(dice) % 1_000_000_000
+    first = draw_microseconds(dice)
+    last = first + draw_microseconds(dice) % 1_000_000_000
     match dice.below(6):
         case 0:
             return "any", "*"
         case 1:
-            return f"at {first}", seconds(first)
+            return f"at {first}", microseconds_as_seconds_text(first)
         case 2:
-            return f"between {first} {last}", f"{seconds(first)}~{seconds(last)}"
+            return (
+                f"between {first} {last}",
+                f"{microseconds_as_seconds_text(first)}~{microseconds_as_seconds_text(last)}",
+            )
         case 3:
-            return f"within {first} {last}", f"+{seconds(first)}~+{seconds(last)}"
-    return f"after {first}", f"+{seconds(first)}"
+            return (
+                f"within {first} {last}",
+                f"+{microseconds_as_seconds_text(first)}~+{microseconds_as_seconds_text(last)}",
+            )
+    return f"after {first}", f"+{microseconds_as_seconds_text(first)}"
 
 
 def number(dice: SeededDice) -> int:
@@ -92,6 +98,6 @@ def row(dice: SeededDice) -> str:
 def rows(seed: int, amount: Amount) -> Iterator[str]:
     """All rows: a packet each, and the title that ends them."""
     dice = SeededDice(seed)
-    for packet in amount.of([row(dice)] for _ in repeat(None)):
+    for packet in amount.take_lists_until_enough([row(dice)] for _ in repeat(None)):
         yield from packet
     yield "== random packets"

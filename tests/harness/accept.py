@@ -12,10 +12,21 @@ from pathlib import Path
 
 sys.path.insert(0, str(Path(__file__).resolve().parents[1]))
 
-from harness.answered_tables import AnsweredTable, Answers, answered_tables_in, first_difference  # noqa: E402
+from harness.answered_tables import (  # noqa: E402
+    AnsweredTable,
+    Answers,
+    answered_tables_in,
+    first_differing_wanted_and_given_answer,
+)
 from harness.calls import CallRunner, ProgramOutput, run_tests_in_step  # noqa: E402
 from harness.compare import RowAnswer, cut_for_message  # noqa: E402
-from harness.rewrite import AcceptError, Lines, rewrite_explained, rewrite_story, rewrite_verdict  # noqa: E402
+from harness.rewrite import (  # noqa: E402
+    AcceptError,
+    Lines,
+    rewrite_table_of_explanations,
+    rewrite_story,
+    rewrite_verdict,
+)
 from harness.run_calls import run_calls  # noqa: E402
 from harness.run_rows import interrupt_at_sigterm  # noqa: E402
 from harness.stories import read_run_stories  # noqa: E402
@@ -36,7 +47,7 @@ class AcceptedRows:
     rows: dict[int, str] = field(default_factory=dict)
     refused: dict[int, str] = field(default_factory=dict)
 
-    def accept_answer(self, row: int, answers: tuple[RowAnswer, RowAnswer], lines: Lines) -> None:
+    def note_new_lines_and_message_of_row(self, row: int, answers: tuple[RowAnswer, RowAnswer], lines: Lines) -> None:
         """Accepts an answer for the row that begins in a line."""
         wanted, answer = answers
         self.lines |= lines
@@ -49,34 +60,36 @@ def changed_answers(table: AnsweredTable, answers: Sequence[Answers]) -> Changed
     """The answers that differ, by the lines of their rows."""
     found: ChangedAnswers = {}
     for case, each in zip(table.cases, answers):
-        if other := first_difference(case, each):
+        if other := first_differing_wanted_and_given_answer(case, each):
             found.setdefault(case.row.line, other)
     return found
 
 
-def accept_table(table: Table, changed: ChangedAnswers, accepted: AcceptedRows) -> None:
+def note_rewrites_or_refusals_of_table(table: Table, changed: ChangedAnswers, accepted: AcceptedRows) -> None:
     """Accepts answers for the rows of a table."""
     if table.kind == "scripts":
         for row in (it for it in table.rows if it.line in changed):
-            accepted.accept_answer(row.line, changed[row.line], rewrite_verdict(row, str(changed[row.line][1])))
+            accepted.note_new_lines_and_message_of_row(
+                row.line, changed[row.line], rewrite_verdict(row, str(changed[row.line][1]))
+            )
     elif table.kind == "explained":
-        lines = rewrite_explained(table.rows, {line: str(answer) for line, (_, answer) in changed.items()})
+        lines = rewrite_table_of_explanations(table.rows, {line: str(answer) for line, (_, answer) in changed.items()})
         for line, each in changed.items():
-            accepted.accept_answer(line, each, lines)
+            accepted.note_new_lines_and_message_of_row(line, each, lines)
     elif table.kind == "stories":
-        accept_stories(table, changed, accepted)
+        note_rewrites_or_refusals_of_stories(table, changed, accepted)
     else:
         accepted.refused |= dict.fromkeys(changed, BY_HAND)
 
 
-def accept_stories(table: Table, changed: ChangedAnswers, accepted: AcceptedRows) -> None:
+def note_rewrites_or_refusals_of_stories(table: Table, changed: ChangedAnswers, accepted: AcceptedRows) -> None:
     for story in read_run_stories(table):
         line = story.rows[0].line
         if line in changed:
             wanted, output = changed[line]
             assert isinstance(wanted, ProgramOutput) and isinstance(output, ProgramOutput)
             try:
-                accepted.accept_answer(line, changed[line], rewrite_story(story, wanted, output))
+                accepted.note_new_lines_and_message_of_row(line, changed[line], rewrite_story(story, wanted, output))
             except AcceptError as why:
                 accepted.refused[line] = str(why)
 
@@ -98,7 +111,7 @@ def accept_file(file: Path, tables: Sequence[tuple[AnsweredTable, Sequence[Answe
     """Writes answers into a file; the messages of the rows that are changed, and of those that aren't."""
     accepted = AcceptedRows()
     for table, answers in tables:
-        accept_table(table.table, changed_answers(table, answers), accepted)
+        note_rewrites_or_refusals_of_table(table.table, changed_answers(table, answers), accepted)
         unanswered = (case.row.line for case, each in zip(table.cases, answers) if None in each)
         accepted.refused |= dict.fromkeys(unanswered, UNANSWERED)
     text, places = apply_rewrites(file.read_bytes().decode(), accepted.lines)
@@ -110,7 +123,7 @@ def accept_file(file: Path, tables: Sequence[tuple[AnsweredTable, Sequence[Answe
     return rows, refused
 
 
-def accept_files(files: Sequence[Path], runner: CallRunner) -> Iterator[tuple[list[str], list[str]]]:
+def run_and_accept_files(files: Sequence[Path], runner: CallRunner) -> Iterator[tuple[list[str], list[str]]]:
     """Runs all files at once, and writes the answers into each."""
     tables = [it for file in files for it in answered_tables_in(file)]
     answers = list(run_tests_in_step([it.answer_cases() for it in tables], runner))
@@ -125,7 +138,7 @@ def main(arguments: Sequence[str]) -> int:
     programs = chosen_programs(options)
     files = list(dict.fromkeys(it.absolute() for path in options.paths for it in row_files_in(path)))
     accepted = refused = 0
-    for rows, others in accept_files(files, lambda calls: run_calls(programs.direct, calls)):
+    for rows, others in run_and_accept_files(files, lambda calls: run_calls(programs.direct, calls)):
         print(*rows, *others, sep="\n", end="\n" if rows or others else "")
         accepted, refused = accepted + len(rows), refused + len(others)
     print(f"{accepted} taken, {refused} not taken")

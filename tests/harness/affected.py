@@ -26,10 +26,10 @@ class ChangedRow:
 def tables_about_sender() -> list[AnsweredTable]:
     """All tables whose rows have answers, without the runs that test nothing of the sender."""
     tables = [it for file in case_files() for it in answered_tables_in(file)]
-    return [replace(it, cases=[case for case in it.cases if not is_not_about_sender(case)]) for it in tables]
+    return [replace(it, cases=[case for case in it.cases if not is_case_not_about_sender(case)]) for it in tables]
 
 
-def is_not_about_sender(case: RowCase[Any]) -> bool:
+def is_case_not_about_sender(case: RowCase[Any]) -> bool:
     """Whether a case tests nothing of the sender.
 
     That is a refusal of arguments, a run with workers, which is made without them, too, or a long one, about limits of

@@ -42,7 +42,7 @@ def answered_tables_in(file: Path) -> Iterator[AnsweredTable]:
         return
 
 
-def first_difference(
+def first_differing_wanted_and_given_answer(
     case: RowCase[Any], answers: Sequence[Optional[RowAnswer]]
 ) -> Optional[tuple[RowAnswer, RowAnswer]]:
     """The wanted answer of a case and the given one, of its first check where they differ."""

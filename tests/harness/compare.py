@@ -128,7 +128,7 @@ def output_as_story_lines(output: ProgramOutput) -> Iterator[str]:
     yield "came to no end" if output.status == NO_STATUS else f"= {output.status}"
 
 
-def output_difference(row: CaseRow, wanted: ProgramOutput, output: ProgramOutput) -> str:
+def row_and_unified_diff_of_outputs(row: CaseRow, wanted: ProgramOutput, output: ProgramOutput) -> str:
     """A row, and how the output differs from what is wanted."""
     before, after = list(output_as_story_lines(wanted)), list(output_as_story_lines(output))
     return "\n".join(
@@ -136,7 +136,7 @@ def output_difference(row: CaseRow, wanted: ProgramOutput, output: ProgramOutput
     )
 
 
-def add_script_command(name: str, text: bytes) -> bytes:
+def octets_of_add_command(name: str, text: bytes) -> bytes:
     """The command that adds a script."""
     lines = text.count(b"\n") + 1 if text else 0
     return f"add {name} {lines}\n".encode() + (text + b"\n" if lines else b"")
@@ -158,14 +158,14 @@ def report_of_verdicts(verdicts: Mapping[str, str]) -> ProgramOutput:
 EMPTY_REPORT = report_of_verdicts({})
 
 
-def check_verdict(text: str) -> str:
+def verdict_with_known_class_or_raise(text: str) -> str:
     """A verdict, which begins with its class."""
     if text.split(" ", 1)[0] not in CLASSES:
         raise RowError("there is no such verdict")
     return text
 
 
-def batch_places(scripts: Sequence[ExpectedScript]) -> list[list[int]]:
+def script_places_grouped_into_batches(scripts: Sequence[ExpectedScript]) -> list[list[int]]:
     """The places of scripts by the commands before them, so many at a time."""
     groups: dict[str, list[int]] = {}
     for place, script in enumerate(scripts):
@@ -175,7 +175,7 @@ def batch_places(scripts: Sequence[ExpectedScript]) -> list[list[int]]:
 
 def batch_input(batch: Sequence[ExpectedScript]) -> bytes:
     """The input that adds the scripts of a batch, as `a1` and so on."""
-    adds = [add_script_command(f"a{number}", script.text) for number, script in enumerate(batch, 1)]
+    adds = [octets_of_add_command(f"a{number}", script.text) for number, script in enumerate(batch, 1)]
     return batch[0].commands.encode() + b"".join(adds)
 
 
@@ -186,7 +186,9 @@ def verdicts_of_batch(output: Optional[ProgramOutput], count: int) -> list[str]:
     return [rows.get(f"a{number}", "") for number in range(1, count + 1)]
 
 
-def differing_batches(scripts: Sequence[ExpectedScript], each_batch: Sequence[list[int]]) -> CallSteps[dict[int, str]]:
+def run_batches_and_describe_differences(
+    scripts: Sequence[ExpectedScript], each_batch: Sequence[list[int]]
+) -> CallSteps[dict[int, str]]:
     """How the reports of several batches differ from the wanted ones, by the first place of each that differs."""
     texts = [[scripts[place] for place in places] for places in each_batch]
     outputs = yield [ProgramCall(PROGRAM, (), batch_input(it)) for it in texts]
@@ -194,18 +196,20 @@ def differing_batches(scripts: Sequence[ExpectedScript], each_batch: Sequence[li
     for places, batch, output in zip(each_batch, texts, outputs):
         wanted = report_of_verdicts({f"a{number}": script.wanted for number, script in enumerate(batch, 1)})
         if output is not None and output != wanted:
-            wrong[places[0]] = output_difference(batch[0].row, wanted, output)
+            wrong[places[0]] = row_and_unified_diff_of_outputs(batch[0].row, wanted, output)
     return wrong
 
 
 def check_scripts(scripts: Sequence[ExpectedScript]) -> CallSteps[list[RowResult]]:
     """Compares the verdicts of scripts. If the report of a batch differs, each of its scripts is run by itself."""
-    each_batch = batch_places(scripts)
-    together = yield from differing_batches(scripts, each_batch)
+    each_batch = script_places_grouped_into_batches(scripts)
+    together = yield from run_batches_and_describe_differences(scripts, each_batch)
     wrong = [places for places in each_batch if places[0] in together]
     faults: dict[int, str] = {}
     if wrong:
-        faults = yield from differing_batches(scripts, [[place] for places in wrong for place in places])
+        faults = yield from run_batches_and_describe_differences(
+            scripts, [[place] for places in wrong for place in places]
+        )
     for places in wrong:
         if faults.keys().isdisjoint(places):
             faults[places[0]] = f"run with those after it:\n{together[places[0]]}"
@@ -214,7 +218,7 @@ def check_scripts(scripts: Sequence[ExpectedScript]) -> CallSteps[list[RowResult
 
 def script_answers(scripts: Sequence[ExpectedScript]) -> CallSteps[list[Optional[RowAnswer]]]:
     """The verdict of each script; none where its run stopped."""
-    each_batch = batch_places(scripts)
+    each_batch = script_places_grouped_into_batches(scripts)
     outputs = yield [ProgramCall(PROGRAM, (), batch_input([scripts[it] for it in places])) for places in each_batch]
     found: dict[int, str] = {}
     for places, output in zip(each_batch, outputs):
@@ -247,7 +251,7 @@ def compared_part_of(run: ProgramRun, output: ProgramOutput) -> ProgramOutput:
 def run_fault(run: ProgramRun, output: ProgramOutput) -> str:
     """How the output of a run differs from what is wanted; empty where it doesn't."""
     short = compared_part_of(run, output)
-    fault = output_difference(run.row, run.wanted, short) if short != run.wanted else ""
+    fault = row_and_unified_diff_of_outputs(run.row, run.wanted, short) if short != run.wanted else ""
     return f"{fault or run.row}\n{output.read} octets read, none at most" if output.read else fault
 
 

@@ -16,7 +16,7 @@ from harness.compare import (
     report_of_verdicts,
     run_answers,
 )
-from harness.compare import script_answers, check_runs, check_scripts, check_verdict
+from harness.compare import script_answers, check_runs, check_scripts, verdict_with_known_class_or_raise
 from harness.tables import PROGRAM, CaseRow, Table, parse_octets, split_at_mark
 
 # The first octets of an input; no script has them.
@@ -30,28 +30,30 @@ class GrowingInput:
 
     octets: bytes = b""
 
-    def grow_by_row(self, row: CaseRow) -> Iterator[CutCheck]:
+    def grow_by_row_yielding_check_at_each_octet(self, row: CaseRow) -> Iterator[CutCheck]:
         """A row `ANSWER | PIECE`: the answer where the text ends at one of the octets of the piece."""
         answer, piece = split_at_mark(row.text, " | ", "a row has an answer and a |")
         for octet in parse_octets(piece):
             self.octets += bytes([octet])
             part = replace(row, part=f", at {len(self.octets)}")
-            yield self.check_of_cut(part, answer)
+            yield self.check_of_cut_by_program_or_verdict(part, answer)
 
-    def check_of_cut(self, row: CaseRow, answer: str) -> CutCheck:
+    def check_of_cut_by_program_or_verdict(self, row: CaseRow, answer: str) -> CutCheck:
         """The check of the octets so far: an input, with a fault or the verdict of its only script `a`, or a script."""
         if not self.octets.startswith(INPUT[: len(self.octets)]):
-            return ExpectedScript(row, "", self.octets, check_verdict(answer))
+            return ExpectedScript(row, "", self.octets, verdict_with_known_class_or_raise(answer))
         if answer[:1].isdigit():
             return ProgramRun(row, PROGRAM, (), self.octets, ProgramOutput(b"", f"pdregress: {answer}\n".encode(), 2))
-        return ProgramRun(row, PROGRAM, (), self.octets, report_of_verdicts({"a": check_verdict(answer)}))
+        return ProgramRun(
+            row, PROGRAM, (), self.octets, report_of_verdicts({"a": verdict_with_known_class_or_raise(answer)})
+        )
 
 
 def read_cuts(table: Table) -> Iterator[RowCase[CutCheck]]:
     """A script or an input, a piece of it a row."""
     growing = GrowingInput()
     for row in table.rows:
-        yield read_case(row, lambda: growing.grow_by_row(row))
+        yield read_case(row, lambda: growing.grow_by_row_yielding_check_at_each_octet(row))
 
 
 def check_cuts(checks: Sequence[CutCheck]) -> CallSteps[list[RowResult]]:

@@ -12,7 +12,7 @@ from harness.compare import (
     RowResult,
     TableKind,
     ExpectedScript,
-    batch_places,
+    script_places_grouped_into_batches,
     read_case,
     batch_input,
     cut_for_message,
@@ -27,7 +27,7 @@ Explained = list[tuple[ExpectedScript, str, Mapping[str, object]]]
 
 def explain_scripts(scripts: Sequence[ExpectedScript]) -> CallSteps[Explained]:
     """Each script with its verdict, and with its block or an empty one."""
-    each_batch = [[scripts[place] for place in places] for places in batch_places(scripts)]
+    each_batch = [[scripts[place] for place in places] for places in script_places_grouped_into_batches(scripts)]
     found: Explained = []
     outputs = yield [ProgramCall(PROGRAM, EXPLAINING, batch_input(batch)) for batch in each_batch]
     for batch, output in zip(each_batch, outputs):
@@ -100,7 +100,7 @@ def read_beginnings(table: Table) -> Iterator[RowCase[ExpectedScript]]:
         yield read_case(row, lambda: beginning_checks(row))
 
 
-def check_beginnings(scripts: Sequence[ExpectedScript]) -> CallSteps[list[RowResult]]:
+def check_refused_beginnings_are_explained(scripts: Sequence[ExpectedScript]) -> CallSteps[list[RowResult]]:
     """Checks that where one is refused, something could stand there, and the marked text is shown."""
     results = []
     for script, verdict, block in (yield from explain_scripts(scripts)):
@@ -113,4 +113,4 @@ def check_beginnings(scripts: Sequence[ExpectedScript]) -> CallSteps[list[RowRes
 
 
 EXPLAINED = TableKind(read_explained, check_explanations, answer=explained_answers)
-BEGINNINGS = TableKind(read_beginnings, check_beginnings)
+BEGINNINGS = TableKind(read_beginnings, check_refused_beginnings_are_explained)

@@ -13,7 +13,7 @@ from harness.recordings import RECORDINGS
 from harness.refusals import REFUSALS
 from harness.scripts import PLACES, SCRIPTS
 from harness.stories import STORIES, TITLED_STORIES
-from harness.tables import DrawOptions, CaseRow, Table, RowError, place_in_tree, read_tables
+from harness.tables import DrawOptions, CaseRow, Table, RowError, path_below_top, read_tables
 
 KINDS: dict[str, TableKind[Any]] = {
     "scripts": SCRIPTS,
@@ -52,7 +52,7 @@ def mark_message(mark: CaseRow) -> str:
     )
 
 
-def with_marks(cases: Sequence[RowCase[Any]], marks: Sequence[CaseRow]) -> Iterator[RowCase[Any]]:
+def cases_failing_where_marked(cases: Sequence[RowCase[Any]], marks: Sequence[CaseRow]) -> Iterator[RowCase[Any]]:
     """The cases of a table, of which a marked one fails; so does a mark without a case after it."""
     messages: dict[int, str] = {}
     for mark in marks:
@@ -70,7 +70,7 @@ def read_group(table: Table) -> CaseGroup:
         return error_group(table.name, table.heading, f"{table.heading}: there is no such kind")
     kind = KINDS[table.kind]
     try:
-        cases = list(with_marks(list(kind.read(table)), table.marks))
+        cases = list(cases_failing_where_marked(list(kind.read(table)), table.marks))
         return CaseGroup(table.name, kind, kind.programs or (table.program,), cases)
     except RowError as why:
         return error_group(table.name, table.heading, str(why))
@@ -81,4 +81,4 @@ def read_groups(file: Path, draw_options: DrawOptions = DrawOptions()) -> Iterat
     try:
         yield from (read_group(replace(table, draw_options=draw_options)) for table in read_tables(file))
     except RowError as why:
-        yield error_group("file", CaseRow(place_in_tree(file), 1, ""), str(why))
+        yield error_group("file", CaseRow(path_below_top(file), 1, ""), str(why))

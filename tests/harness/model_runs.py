@@ -4,7 +4,7 @@ import re
 from collections.abc import Iterator, Sequence
 from itertools import dropwhile, zip_longest
 
-from model.scenarios import Expected, Transfer, transfers
+from model.scenarios import Expected, Transfer, endless_transfers_from_seed
 from harness.calls import CallSteps, ProgramOutput
 from harness.compare import MAX_FAULTS, RowResult
 from harness.random_scripts import RandomScript
@@ -19,7 +19,7 @@ SECOND = 1_000_000
 def draw_transfers(count: int, algorithm: str, seed: int) -> Iterator[Transfer]:
     """Transfers by an algorithm, from a seed on, until there are so many recoveries."""
     found = 0
-    for it in transfers(algorithm, seed):
+    for it in endless_transfers_from_seed(algorithm, seed):
         if found >= count:
             return
         found += it.recoveries

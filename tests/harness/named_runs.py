@@ -12,7 +12,7 @@ DESK = "test_desk"
 PARTS = ("overlap", "schedules", "orders")
 
 
-def desk_part_cases() -> Iterator[RowCase[ProgramRun]]:
+def cases_of_all_desk_parts() -> Iterator[RowCase[ProgramRun]]:
     """Each further part of test_desk as a run without a story."""
     lines = (TOP / "crates" / DESK / "stdout").read_bytes().splitlines(keepends=True)[1:]
     for part, line in zip(PARTS, lines, strict=True):
@@ -20,7 +20,7 @@ def desk_part_cases() -> Iterator[RowCase[ProgramRun]]:
         yield RowCase(part, row, (ProgramRun(row, DESK, (part.encode(),), b"", ProgramOutput(line, b"", 0)),))
 
 
-def cases_of_kind(kind: str) -> list[RowCase[ProgramRun]]:
+def cases_of_story_run_or_part(kind: str) -> list[RowCase[ProgramRun]]:
     """The cases among which a name of this kind is looked for."""
     match kind:
         case "story":
@@ -28,7 +28,7 @@ def cases_of_kind(kind: str) -> list[RowCase[ProgramRun]]:
         case "run":
             return [case for table in read_tables(CASES / "runs" / "words.cases") for case in read_stories(table)]
         case "part":
-            return list(desk_part_cases())
+            return list(cases_of_all_desk_parts())
         case _:
             return []
 
@@ -37,7 +37,7 @@ def runs_named(test: str) -> list[ProgramRun]:
     """The runs of this name; of a story that is run with workers these runs alone."""
     kind, _, title = test.partition(" ")
     name = slug(title)
-    cases = [case for case in cases_of_kind(kind) if slug(case.row.text) == name]
+    cases = [case for case in cases_of_story_run_or_part(kind) if slug(case.row.text) == name]
     if not cases:
         raise RowError(f"there is no {test}")
     with_workers = [case for case in cases if case.name != name]

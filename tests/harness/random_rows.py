@@ -19,7 +19,7 @@ ROW = re.compile(r"([1-9]\d*) ([a-z0-9 ]+) from (\d+)")
 RECOVERIES = {f"recoveries by {it}": it for it in (RFC6675, RFC9937)}
 
 
-def sender_output(rows: Sequence[str]) -> Iterator[str]:
+def wanted_output_of_test_sender(rows: Sequence[str]) -> Iterator[str]:
     """The output of test_sender for rows where none differs."""
     count = 0
     for row in rows:
@@ -33,7 +33,7 @@ def sender_output(rows: Sequence[str]) -> Iterator[str]:
             count += 1
 
 
-def book_output(rows: Sequence[str]) -> Iterator[str]:
+def wanted_output_of_test_book(rows: Sequence[str]) -> Iterator[str]:
     """The output of test_book for rows where none differs."""
     yield from (row for row in rows if row.startswith("=="))
     stories = sum(row.startswith("# ") for row in rows)
@@ -52,11 +52,11 @@ class RowLists:
 
 PROGRAMS = {
     "test_sender": {
-        "packets": RowLists("random_packets.txt", packets.rows, sender_output),
-        "short boards": RowLists("random_boards.txt", partial(boards.rows, boards.SHORT), sender_output),
-        "long boards": RowLists("random_boards.txt", partial(boards.rows, boards.LONG), sender_output),
+        "packets": RowLists("random_packets.txt", packets.rows, wanted_output_of_test_sender),
+        "short boards": RowLists("random_boards.txt", partial(boards.rows, boards.SHORT), wanted_output_of_test_sender),
+        "long boards": RowLists("random_boards.txt", partial(boards.rows, boards.LONG), wanted_output_of_test_sender),
     },
-    "test_book": {"books": RowLists("random_lists.txt", books.rows, book_output)},
+    "test_book": {"books": RowLists("random_lists.txt", books.rows, wanted_output_of_test_book)},
 }
 DRAWS = {RECORDS: list(RECOVERIES), **{name: list(it) for name, it in PROGRAMS.items()}}
 
@@ -77,7 +77,7 @@ class Draw:
         rows = list(lists.drawn(self.seed, self.amount))
         files = {it.name: it.read_bytes() for it in (crate / "data").iterdir()}
         stored = files[lists.file].decode().splitlines()
-        wanted = replace_stored_output(
+        wanted = stdout_for_drawn_in_place_of_stored_rows(
             (crate / "stdout").read_bytes(), encode_lines(lists.output(stored)), encode_lines(lists.output(rows))
         )
         given = (crate / "stdin").read_bytes()
@@ -85,7 +85,7 @@ class Draw:
         return ProgramRun(self.row, self.program, (), given, ProgramOutput(wanted, b"", 0), files=with_rows)
 
 
-def replace_stored_output(output: bytes, stored: bytes, drawn: bytes) -> bytes:
+def stdout_for_drawn_in_place_of_stored_rows(output: bytes, stored: bytes, drawn: bytes) -> bytes:
     """The wanted output for the rows that are drawn, by the one for those that are stored."""
     if output.count(stored) != 1:
         raise RowError("stdout doesn't have the output that follows from the stored rows")

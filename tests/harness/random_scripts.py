@@ -48,7 +48,7 @@ TEXTS = ["..."] * 5 + ['"a)=b"', '"= 1 (" /* "i" */', "%{ ) = 1 // }% // j\n", "
 NOTES = [""] * 5 + [" (l)", " (one /* two */ three)", "  (/*/ m */ (n)) /* o */", ' (")" // p\n)', " (q\n\n)"]
 
 
-def random_event(dice: random.Random, top: list[int]) -> str:
+def draw_event_and_advance_top_by_writes(dice: random.Random, top: list[int]) -> str:
     """An event that may follow a handshake, near what was written so far."""
     time = dice.choice(["+0", "+0.1", "+0.25", "+1", "+3.5", "+0.000001"])
     kind = dice.randrange(10)
@@ -83,7 +83,7 @@ def random_scripts(count: int) -> Iterator[RandomScript]:
         top = [1]
         parts = [dice.choice(STARTS), SETUP.decode()]
         for _ in range(dice.randrange(1, 25)):
-            parts.append(random_event(dice, top))
+            parts.append(draw_event_and_advance_top_by_writes(dice, top))
             parts.append(dice.choice(ENDS))
         settings = dice.choice(["", "", "sack = false", "tolerance_us = 0", "min_rto_us = 200000", "mss = 536"])
         yield RandomScript(f"random:{seed}", settings, "".join(parts).encode())

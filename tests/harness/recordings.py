@@ -9,10 +9,17 @@ from collections.abc import Iterator, Sequence
 from dataclasses import dataclass, replace
 
 from harness.calls import CallSteps, ProgramCall, ProgramOutput, Outputs
-from harness.compare import RowCase, RowResult, TableKind, batch_places, batch_input, verdicts_of_batch
+from harness.compare import (
+    RowCase,
+    RowResult,
+    TableKind,
+    script_places_grouped_into_batches,
+    batch_input,
+    verdicts_of_batch,
+)
 from harness.compare import ExpectedScript
 from harness.random_scripts import RandomScript, random_scripts
-from harness.scripts import parse_script_row, split_terms
+from harness.scripts import parse_script_row, split_into_settings_and_options
 from harness.tables import PROGRAM, CaseRow, Table, RowError, case_files, read_tables
 
 TRACE = re.compile(rb"//= at (\d+\.\d{6}) [A-Z]")
@@ -45,7 +52,7 @@ class DoneRecording:
     trace: bytes
 
     @property
-    def event_count(self) -> int:
+    def recorded_event_count(self) -> int:
         """How many events the recording has: one line of a trace each."""
         return sum(1 for line in self.trace.split(b"\n") if TRACE.match(line))
 
@@ -58,28 +65,28 @@ def toml_of_settings(settings: list[str]) -> str:
     return "\n".join(f"{key} = {value}" for key, value in texts.items())
 
 
-def table_scripts() -> Iterator[RandomScript]:
+def scripts_of_all_script_tables() -> Iterator[RandomScript]:
     """The scripts of all tables of scripts, each option of a header in a line of its own."""
     for table in (it for file in case_files() for it in read_tables(file) if it.kind == "scripts"):
         for row in table.rows:
             _, terms, text = parse_script_row(table, row)
-            settings, options = split_terms(terms)
+            settings, options = split_into_settings_and_options(terms)
             head = "".join(f"{option}\n" for option in options).encode()
             yield RandomScript(f"{row.file}:{row.line}", toml_of_settings(settings), head + text)
 
 
-def chosen_scripts(row: CaseRow) -> list[RandomScript]:
+def every_nth_of_table_and_random_scripts(row: CaseRow) -> list[RandomScript]:
     """The scripts that a row takes."""
     found = CHOICE.fullmatch(row.text)
     if not found:
         raise RowError("a row is `each N of the tables and COUNT random scripts`")
-    return [*table_scripts(), *random_scripts(int(found[2]))][:: int(found[1])]
+    return [*scripts_of_all_script_tables(), *random_scripts(int(found[2]))][:: int(found[1])]
 
 
-def read_recordings(table: Table) -> Iterator[RowCase[RandomScript]]:
+def read_cases_of_chosen_scripts(table: Table) -> Iterator[RowCase[RandomScript]]:
     """A case for each script that a row takes."""
     for row in table.rows:
-        for script in chosen_scripts(row):
+        for script in every_nth_of_table_and_random_scripts(row):
             name = re.sub(r".*/|\.cases", "", script.name).replace(":", "-")
             yield RowCase(name, replace(row, text=script.name), (script,))
 
@@ -89,14 +96,14 @@ def record_call(script: RandomScript, *options: bytes) -> ProgramCall:
     return ProgramCall(RECORDS, (b"--settings", script.settings.encode(), *options), script.text)
 
 
-def script_under_settings(script: RandomScript, text: bytes) -> ExpectedScript:
+def text_to_run_under_script_settings(script: RandomScript, text: bytes) -> ExpectedScript:
     """A text to run under the settings of a script."""
     settings = (line.replace(" = ", " ").replace('"', "") for line in script.settings.splitlines())
     commands = "".join(f"set {it}\n" for it in settings)
     return ExpectedScript(CaseRow(script.name, 0, ""), commands, text.removesuffix(b"\n"), "")
 
 
-def batch_verdicts(
+def verdicts_of_batches_rerunning_stopped(
     scripts: Sequence[ExpectedScript], each_batch: Sequence[list[int]], outputs: Outputs
 ) -> CallSteps[dict[int, str]]:
     """The verdicts of scripts that were run in batches, or by themselves where a batch stopped at a fault."""
@@ -133,7 +140,7 @@ def comment_faults(done: DoneRecording) -> Iterator[str]:
         yield f"without {dict(script - kept)}, and with {dict(kept - script)} besides"
 
 
-def allow_too_large(row: str) -> str:
+def too_large_if_row_is_limit_else_row(row: str) -> str:
     """A refusal in place of a row: of a run that stops at a full outbox the recording may be over the limits."""
     return "2 TooLarge" if row.startswith("limit") else row
 
@@ -150,14 +157,14 @@ def refusal_faults(refused: RefusedRecording, row: str) -> Iterator[str]:
         yield f"status {refused.status}: {refused.errors!r}"
     elif bool(below) == reason.startswith("2") or not re.fullmatch(r"(  [ -~]*\n)*", below):
         yield f"refused by {reason!r}, with {below!r} below it"
-    elif row and not row.startswith(("pass", "fail")) and reason not in (row, allow_too_large(row)):
+    elif row and not row.startswith(("pass", "fail")) and reason not in (row, too_large_if_row_is_limit_else_row(row)):
         yield f"refused by {reason!r}, where the row is {row!r}"
 
 
-def row_faults(done: DoneRecording, row: str) -> Iterator[str]:
+def faults_unless_recording_passes_whole(done: DoneRecording, row: str) -> Iterator[str]:
     """The fault of the row of a recording, if it has one: it has to pass, with all of its events."""
-    if row != f"pass {done.event_count}":
-        yield f"{row}, with {done.event_count} events"
+    if row != f"pass {done.recorded_event_count}":
+        yield f"{row}, with {done.recorded_event_count} events"
 
 
 def rerecord_faults(done: DoneRecording, again: ProgramOutput | None, traced: ProgramOutput | None) -> Iterator[str]:
@@ -197,19 +204,23 @@ def check_recordings(scripts: Sequence[RandomScript]) -> CallSteps[list[RowResul
     refused = [it for it in each if isinstance(it, RefusedRecording)]
     calls = [call for it in kept for call in rerecord_calls(it)]
     texts = [*((it.script, it.text) for it in kept), *((it.script, it.script.text) for it in refused)]
-    expected = [script_under_settings(*it) for it in texts]
-    each_batch = batch_places(expected)
+    expected = [text_to_run_under_script_settings(*it) for it in texts]
+    each_batch = script_places_grouped_into_batches(expected)
     runs = [ProgramCall(PROGRAM, (), batch_input([expected[place] for place in places])) for places in each_batch]
     outputs = yield [*calls, *runs]
-    rows = yield from batch_verdicts(expected, each_batch, outputs[len(calls) :])
+    rows = yield from verdicts_of_batches_rerunning_stopped(expected, each_batch, outputs[len(calls) :])
     faults: dict[str, list[str]] = {}
     for at, it in enumerate(kept):
         again, traced = outputs[2 * at : 2 * at + 2]
-        faults[it.script.name] = [*rerecord_faults(it, again, traced), *comment_faults(it), *row_faults(it, rows[at])]
+        faults[it.script.name] = [
+            *rerecord_faults(it, again, traced),
+            *comment_faults(it),
+            *faults_unless_recording_passes_whole(it, rows[at]),
+        ]
     for at, other in enumerate(refused, len(kept)):
         faults[other.script.name] = list(refusal_faults(other, rows[at]))
     lines = ["\n".join(f"{it.name}: {fault}" for fault in faults.get(it.name, [])) for it in scripts]
     return [RowResult(it, is_unanswered=done is None) for it, done in zip(lines, each, strict=True)]
 
 
-RECORDINGS = TableKind(read_recordings, check_recordings, (RECORDS, PROGRAM))
+RECORDINGS = TableKind(read_cases_of_chosen_scripts, check_recordings, (RECORDS, PROGRAM))

@@ -13,7 +13,7 @@ NO_COMMAND = "15 BadCommand"
 SET = "set "
 
 
-def read_setting_row(row: CaseRow, answer: str, setting: str) -> Iterator[ProgramRun]:
+def setting_runs_by_command_and_option(row: CaseRow, answer: str, setting: str) -> Iterator[ProgramRun]:
     """A setting `KEY VALUE`, which is refused so or accepted: by a command, and by the option `--settings`."""
     key, value = split_at_mark(setting, " ", "a setting has a value")
     by_command = by_option = EMPTY_REPORT
@@ -36,7 +36,7 @@ def read_refusal_row(row: CaseRow) -> Iterator[ProgramRun]:
         wanted = replace(EMPTY_REPORT, errors=f"pdregress: {answer}\n".encode(), status=2)
         yield ProgramRun(row, PROGRAM, (), b"show\n" + parse_octets(rest) + b"\nshow\n", wanted)
     elif mark == "<" and rest.startswith(SET):
-        yield from read_setting_row(row, answer, rest.removeprefix(SET))
+        yield from setting_runs_by_command_and_option(row, answer, rest.removeprefix(SET))
     else:
         raise RowError(f"a refusal is of `$ ARGUMENTS`, `< set KEY VALUE`, or with {NO_COMMAND} any `< LINE`")
 

@@ -36,7 +36,7 @@ def rewrite_verdict(row: CaseRow, verdict: str) -> Lines:
     return {row.line: [MARKED, f"{verdict}{under}{terms}:{script}"]}
 
 
-def rewrite_explained(rows: Sequence[CaseRow], changed: Mapping[int, str]) -> Lines:
+def rewrite_table_of_explanations(rows: Sequence[CaseRow], changed: Mapping[int, str]) -> Lines:
     """The rows of a table of explanations; those of some lines have another answer, which stands before them."""
     lines: Lines = {}
     wanted = ""
@@ -66,16 +66,16 @@ class StoryPiece:
     before: list[bytes]
     now: list[bytes] = field(default_factory=list)
 
-    def rewritten_lines(self) -> list[str]:
+    def lines_keeping_own_if_output_begins_same(self) -> list[str]:
         """The line as it stands, and lines for the rest of the output; or other lines in its place."""
         count = len(self.before)
         if self.now[:count] == self.before:
-            return [self.row.text, *self.story_lines(self.now[count:])]
+            return [self.row.text, *self.output_lines_with_story_marks(self.now[count:])]
         if self.mark in (">>", "after"):
             raise AcceptError(f"'{self.row.text}' differs now: change what it names")
-        return list(self.story_lines(self.now))
+        return list(self.output_lines_with_story_marks(self.now))
 
-    def story_lines(self, lines: Sequence[bytes]) -> Iterator[str]:
+    def output_lines_with_story_marks(self, lines: Sequence[bytes]) -> Iterator[str]:
         for line in lines:
             if self.mark.startswith("!"):
                 yield f"!~ {escape_octets(line[2:])}" if line.startswith(b"~ ") else f"! {escape_octets(line)}"
@@ -83,7 +83,7 @@ class StoryPiece:
                 yield f"> {escape_octets(line)}"
 
 
-def output_pieces_of(story: RunStory, marks: Sequence[str]) -> Iterator[StoryPiece]:
+def pieces_of_output_rows_with_marks(story: RunStory, marks: Sequence[str]) -> Iterator[StoryPiece]:
     """The lines of a story with these marks."""
     for row in story.rows:
         mark = row.text.partition(" ")[0]
@@ -93,7 +93,7 @@ def output_pieces_of(story: RunStory, marks: Sequence[str]) -> Iterator[StoryPie
             yield StoryPiece(row, mark, (alone.output + alone.errors).split(b"\n")[:-1])
 
 
-def share_output(pieces: Sequence[StoryPiece], output: Sequence[bytes]) -> list[bytes]:
+def share_output_answering_lines_before_first(pieces: Sequence[StoryPiece], output: Sequence[bytes]) -> list[bytes]:
     """Shares the lines of an output among pieces; the result is the lines before the first piece."""
     owners = [piece for piece in pieces for _ in piece.before]
     before = [line for piece in pieces for line in piece.before]
@@ -105,7 +105,7 @@ def share_output(pieces: Sequence[StoryPiece], output: Sequence[bytes]) -> list[
     return first
 
 
-def split_whole_lines(text: bytes) -> list[bytes]:
+def split_lines_requiring_last_newline(text: bytes) -> list[bytes]:
     """The lines of an output, which ends with a newline."""
     *lines, last = text.split(b"\n")
     if last:
@@ -113,12 +113,12 @@ def split_whole_lines(text: bytes) -> list[bytes]:
     return lines
 
 
-def rewrite_output(story: RunStory, marks: Sequence[str], output: bytes) -> tuple[Lines, list[str]]:
+def rewrite_one_stream_of_story(story: RunStory, marks: Sequence[str], output: bytes) -> tuple[Lines, list[str]]:
     """The lines of a story with these marks, with another output, and those at its end where it has none."""
-    pieces = list(output_pieces_of(story, marks))
-    first = share_output(pieces, split_whole_lines(output))
-    lines = {it.row.line: it.rewritten_lines() for it in pieces}
-    before = list(StoryPiece(story.rows[-1], marks[0], []).story_lines(first))
+    pieces = list(pieces_of_output_rows_with_marks(story, marks))
+    first = share_output_answering_lines_before_first(pieces, split_lines_requiring_last_newline(output))
+    lines = {it.row.line: it.lines_keeping_own_if_output_begins_same() for it in pieces}
+    before = list(StoryPiece(story.rows[-1], marks[0], []).output_lines_with_story_marks(first))
     if pieces:
         begin = pieces[0].row.line
         lines[begin] = [*before, *lines[begin]]
@@ -133,7 +133,7 @@ def rewrite_story(story: RunStory, wanted: ProgramOutput, output: ProgramOutput)
     more: list[str] = []
     for marks, one, other in ((OUTPUT, wanted.output, output.output), (ERRORS, wanted.errors, output.errors)):
         if one != other:
-            changed, last = rewrite_output(story, marks, other)
+            changed, last = rewrite_one_stream_of_story(story, marks, other)
             lines, more = {**lines, **changed}, [*more, *last]
     begin, end = story.rows[0], story.rows[-1]
     lines[end.line] = [*more, f"= {output.status}"]

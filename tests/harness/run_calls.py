@@ -42,7 +42,7 @@ def call_program(command: Sequence[str | Path], call: ProgramCall) -> ProgramOut
     command_line = [*map(os.fsencode, command), *call.arguments]
     try:
         if call.counts_read:
-            return call_with_file_input(command_line, call.given)
+            return call_counting_octets_read_of_input(command_line, call.given)
         if call.files:
             return call_in_folder(command_line, call)
         done = subprocess.run(command_line, input=call.given, capture_output=True, timeout=SECONDS)
@@ -51,7 +51,7 @@ def call_program(command: Sequence[str | Path], call: ProgramCall) -> ProgramOut
     return ProgramOutput(done.stdout, done.stderr, done.returncode)
 
 
-def call_with_file_input(command_line: Sequence[bytes], given: bytes) -> ProgramOutput:
+def call_counting_octets_read_of_input(command_line: Sequence[bytes], given: bytes) -> ProgramOutput:
     """The same, and how far a file is read that is the input."""
     with tempfile.TemporaryFile() as file:
         file.write(given)
@@ -91,7 +91,7 @@ class SourceCalls:
     process: "subprocess.Popen[bytes] | None" = None
     begun: float = 0.0
 
-    def write_calls(self) -> list[str | Path]:
+    def write_calls_and_give_command(self) -> list[str | Path]:
         """Puts the calls into the folder, and gives the command that makes them."""
         cases, answers = self.folder / "cases", self.folder / "answers"
         cases.mkdir(parents=True)
@@ -107,12 +107,12 @@ class SourceCalls:
         return {place: self.read_output(place) for place in self.calls}
 
     def start(self) -> None:
-        command = self.write_calls()
+        command = self.write_calls_and_give_command()
         with (self.folder / "log").open("wb") as log:
             self.process = subprocess.Popen(command, stdin=subprocess.DEVNULL, stderr=log)
         self.begun = time.monotonic()
 
-    def has_ended(self) -> bool:
+    def has_ended_printing_time_and_failure(self) -> bool:
         """Whether the process has ended; prints a line if it has."""
         if self.process is None or self.process.poll() is None:
             return False
@@ -145,7 +145,7 @@ class SourceCalls:
 class BatchCalls(SourceCalls):
     """Calls of both programs, which one process makes in memory: up to one that ends it."""
 
-    def write_calls(self) -> list[str | Path]:
+    def write_calls_and_give_command(self) -> list[str | Path]:
         starts, answers = self.folder / "starts", self.folder / "answers"
         starts.mkdir(parents=True)
         answers.mkdir()
@@ -168,12 +168,12 @@ def call_sources(calls: Sequence[ProgramCall]) -> Outputs:
         folder = Path(name)
         together = BatchCalls("both programs", batch, folder / "both")
         groups = [*[together] * bool(batch), *group_by_program(cases, folder / "first")]
-        run_groups(groups)
+        run_groups_up_to_two_side_by_side(groups)
         outputs = {place: it for group in groups for place, it in group.read_outputs().items()}
         rest = group_by_program(
             {place: call for place, call in possible.items() if place not in outputs}, folder / "again"
         )
-        run_groups(rest)
+        run_groups_up_to_two_side_by_side(rest)
         outputs |= {place: it for group in rest for place, it in group.read_outputs().items()}
     return [outputs.get(place) for place in range(len(calls))]
 
@@ -186,7 +186,7 @@ def group_by_program(calls: Mapping[int, ProgramCall], folder: Path) -> list[Sou
     return sorted(groups.values(), key=lambda it: -len(it.calls))
 
 
-def run_groups(groups: Sequence[SourceCalls]) -> None:
+def run_groups_up_to_two_side_by_side(groups: Sequence[SourceCalls]) -> None:
     """Makes groups of calls, two side by side if there are processors."""
     waiting, running = list(groups), list[SourceCalls]()
     most = max(1, min(2, len(os.sched_getaffinity(0)) // JOBS))
@@ -195,7 +195,7 @@ def run_groups(groups: Sequence[SourceCalls]) -> None:
             while waiting and len(running) < most:
                 running.append(waiting[0])
                 waiting.pop(0).start()
-            running = [it for it in running if not it.has_ended()]
+            running = [it for it in running if not it.has_ended_printing_time_and_failure()]
             time.sleep(0.1)
     finally:
         for group in running:

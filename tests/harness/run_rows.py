@@ -31,10 +31,10 @@ class Programs:
     launched: Commands = field(default_factory=dict)
     unbuilt: tuple[str, ...] = ()
 
-    def commands_for(self, group: CaseGroup) -> Commands:
+    def commands_launched_for_stories_else_direct(self, group: CaseGroup) -> Commands:
         return self.launched if group.kind is STORIES else self.direct
 
-    def are_built(self, groups: Sequence[CaseGroup]) -> bool:
+    def are_all_built_for(self, groups: Sequence[CaseGroup]) -> bool:
         """Whether all programs of these groups are built."""
         return all(program in self.direct for group in groups for program in group.programs)
 
@@ -74,7 +74,8 @@ def check_cases_guarded(group: CaseGroup, cases: Sequence[RowCase[Any]]) -> Call
 def check_selection(selection: Selection, programs: Programs) -> list[RowResult]:
     """Checks some cases of a group."""
     return run_test_alone(
-        check_cases_guarded(*selection), lambda calls: run_calls(programs.commands_for(selection[0]), calls)
+        check_cases_guarded(*selection),
+        lambda calls: run_calls(programs.commands_launched_for_stories_else_direct(selection[0]), calls),
     )
 
 

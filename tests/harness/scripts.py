@@ -3,13 +3,21 @@
 from collections.abc import Iterator
 from dataclasses import dataclass, replace
 
-from harness.compare import RowCase, TableKind, ExpectedScript, read_case, script_answers, check_scripts, check_verdict
+from harness.compare import (
+    RowCase,
+    TableKind,
+    ExpectedScript,
+    read_case,
+    script_answers,
+    check_scripts,
+    verdict_with_known_class_or_raise,
+)
 from harness.tables import CaseRow, Table, RowError, parse_octets, split_at_mark
 
 PLAIN = frozenset(b"\t\r") | frozenset(range(0x20, 0x7F))
 
 
-def split_terms(terms: str) -> tuple[list[str], list[str]]:
+def split_into_settings_and_options(terms: str) -> tuple[list[str], list[str]]:
     """The settings, as `KEY VALUE`, and the header options of `TERM, ..`."""
     each = [term for term in terms.split(", ") if term]
     return [it for it in each if not it.startswith("--")], [it for it in each if it.startswith("--")]
@@ -19,12 +27,12 @@ def parse_script_row(table: Table, row: CaseRow) -> tuple[str, str, bytes]:
     """The verdict, the terms and the octets of a row `VERDICT: SCRIPT` or `VERDICT under TERM, ..: SCRIPT`."""
     head, text = split_at_mark(row.text, ":", "a row has a colon after its verdict")
     verdict, _, terms = head.partition(" under ")
-    return check_verdict(verdict), terms, table.before.given + parse_octets(text.removeprefix(" "))
+    return verdict_with_known_class_or_raise(verdict), terms, table.before.given + parse_octets(text.removeprefix(" "))
 
 
 def read_script_check(table: Table, row: CaseRow) -> Iterator[ExpectedScript]:
     verdict, terms, text = parse_script_row(table, row)
-    settings, options = split_terms(terms)
+    settings, options = split_into_settings_and_options(terms)
     header = "".join(f"{option} " for option in options).encode()
     yield ExpectedScript(row, "".join(f"set {it}\n" for it in settings), header + text, verdict)
 
@@ -47,7 +55,7 @@ class OpenOctet:
     excepted: str = ""
     octets: bytes = b""
 
-    def script_with(self, octet: int) -> ExpectedScript:
+    def script_and_verdict_for_octet(self, octet: int) -> ExpectedScript:
         """The script with this octet."""
         if octet in self.octets:
             wanted = self.excepted
@@ -61,14 +69,16 @@ def read_open_octet(lines: list[CaseRow]) -> OpenOctet:
     """The place of a line `= VERDICT: TEXT`, in which an `@` stands for the octet, and of those below it."""
     verdict, text = split_at_mark(lines[0].text[2:], ": ", "a place has a verdict and a text")
     front, back = split_at_mark(text, "@", "the text of a place has an @")
-    place = OpenOctet(lines[0], parse_octets(front), parse_octets(back), check_verdict(verdict), verdict)
+    place = OpenOctet(
+        lines[0], parse_octets(front), parse_octets(back), verdict_with_known_class_or_raise(verdict), verdict
+    )
     for row in lines[1:]:
         mark, _, rest = row.text.partition(" ")
         if mark == "-":
             verdict, named = split_at_mark(rest, ": ", "an exception has a verdict and octets")
-            place = replace(place, excepted=check_verdict(verdict), octets=parse_octets(named))
+            place = replace(place, excepted=verdict_with_known_class_or_raise(verdict), octets=parse_octets(named))
         elif mark == "*":
-            place = replace(place, strange=check_verdict(rest))
+            place = replace(place, strange=verdict_with_known_class_or_raise(rest))
         else:
             raise RowError("a line of a place begins with = and then - or *")
     return place
@@ -78,7 +88,7 @@ def octet_checks(lines: list[CaseRow]) -> Iterator[ExpectedScript]:
     if not lines[0].text.startswith("= "):
         raise RowError("a line of a place begins with = and then - or *")
     place = read_open_octet(lines)
-    return (place.script_with(octet) for octet in range(256) if octet != ord("\n"))
+    return (place.script_and_verdict_for_octet(octet) for octet in range(256) if octet != ord("\n"))
 
 
 def read_open_octets(table: Table) -> Iterator[RowCase[ExpectedScript]]:

@@ -9,7 +9,7 @@ from dataclasses import dataclass, field
 from pathlib import Path
 
 from harness.calls import ProgramOutput
-from harness.compare import RowCase, TableKind, ProgramRun, add_script_command, run_answers, check_runs
+from harness.compare import RowCase, TableKind, ProgramRun, octets_of_add_command, run_answers, check_runs
 from harness.tables import (
     MARK,
     TOP,
@@ -17,10 +17,10 @@ from harness.tables import (
     RowError,
     Table,
     CaseRow,
-    parse_lines,
+    parse_line_or_numbered_lines,
     parse_octets,
     split_at_mark,
-    place_in_tree,
+    path_below_top,
     add_row_to_errors,
 )
 
@@ -56,15 +56,15 @@ class RunStory:
             case "*":
                 self.workers = rest.split()
             case "after":
-                self.add_opening(self.find_opening(rest))
+                self.add_opening_input_and_output(self.find_opening(rest))
             case "<" | "<#" | "<<" | "~" | "+":
                 self.given += self.input_of_line(mark, rest)
             case ">" | ">#":
-                self.output += parse_lines(rest, mark == ">#")
+                self.output += parse_line_or_numbered_lines(rest, mark == ">#")
             case ">>":
-                self.output += read_file_or_scripts(rest)
+                self.output += read_file_or_add_commands_of_folder(rest)
             case "!" | "!~":
-                self.errors += (b"~ " if mark == "!~" else b"") + parse_lines(rest, False)
+                self.errors += (b"~ " if mark == "!~" else b"") + parse_line_or_numbered_lines(rest, False)
                 self.is_short = self.is_short or mark == "!~"
             case "=" if rest in ("0", "1", "2"):
                 self.status, self.is_whole = int(rest), True
@@ -78,7 +78,7 @@ class RunStory:
             raise RowError("there is no such opening")
         return self.table.openings[name]
 
-    def add_opening(self, opening: Opening) -> None:
+    def add_opening_input_and_output(self, opening: Opening) -> None:
         self.given += opening.given
         self.output += opening.output
 
@@ -87,12 +87,12 @@ class RunStory:
         if mark == "~":
             return parse_octets(rest)
         if mark == "<<":
-            return read_file_or_scripts(rest)
+            return read_file_or_add_commands_of_folder(rest)
         if mark == "+":
             head, text = split_at_mark(rest, ": ", "a script has a name and a colon before it")
             name, _, opening = head.partition(" after ")
-            return add_script_command(name, self.find_opening(opening).given + parse_octets(text))
-        return parse_lines(rest, mark == "<#")
+            return octets_of_add_command(name, self.find_opening(opening).given + parse_octets(text))
+        return parse_line_or_numbered_lines(rest, mark == "<#")
 
     def named_runs(self, row: CaseRow) -> Iterator[tuple[str, ProgramRun]]:
         """The run, and those with workers, each with its name."""
@@ -103,7 +103,7 @@ class RunStory:
             yield slug(self.title) + name, run
 
 
-def read_file_or_scripts(path: str) -> bytes:
+def read_file_or_add_commands_of_folder(path: str) -> bytes:
     """The lines of a file of the tree, or of the commands that add the scripts of a folder."""
     whole = TOP / path
     if not whole.exists():
@@ -162,7 +162,7 @@ def stories_of_file(file: Path, program: str) -> Iterator[RowCase[ProgramRun]]:
         if number and rows:
             given = b"".join(it + b"\n" for it in (*texts, *rows))
             wanted = ProgramOutput(b"%d rows, 0 differ\n" % len((*texts, *rows)), b"", 0)
-            row = CaseRow(place_in_tree(file), line, title.decode())
+            row = CaseRow(path_below_top(file), line, title.decode())
             yield RowCase(slug(row.text), row, (ProgramRun(row, program, (b"stories",), given, wanted),))
         line += story.count(b"\n")
 

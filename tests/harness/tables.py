@@ -87,7 +87,7 @@ class Table:
         return [row for row in self.lines if row.text.startswith(MARK)]
 
 
-def place_in_tree(file: Path) -> str:
+def path_below_top(file: Path) -> str:
     """The path of a file below the top of the tree, where it is below that."""
     return str(file.relative_to(TOP) if file.is_relative_to(TOP) else file)
 
@@ -105,7 +105,7 @@ def parse_octets(text: str) -> bytes:
     return re.sub(rb"\\(x[0-9a-f]{2}|[nrt\\]|)", octet, whole.encode())
 
 
-def parse_lines(rest: str, is_many: bool) -> bytes:
+def parse_line_or_numbered_lines(rest: str, is_many: bool) -> bytes:
     """A line of a text, or the lines of `FIRST LAST TEXT`, one for each of these numbers, which stands for each `#`."""
     if not is_many:
         return parse_octets(rest) + b"\n"
@@ -140,7 +140,7 @@ def parse_tables(file: Path) -> list[Table]:
     """The tables of a file, as they are written."""
     tables: list[Table] = []
     for number, line in enumerate(file.read_bytes().decode().split("\n"), 1):
-        row = CaseRow(place_in_tree(file), number, line)
+        row = CaseRow(path_below_top(file), number, line)
         with add_row_to_errors(row):
             if line.startswith("["):
                 tables.append(parse_heading(row))
@@ -160,7 +160,7 @@ def read_opening(table: Table) -> Opening:
         mark, _, rest = row.text.partition(" ")
         with add_row_to_errors(row):
             if mark == ">":
-                output += parse_lines(rest, False)
+                output += parse_line_or_numbered_lines(rest, False)
             elif mark in ("<", "~"):
                 given += parse_octets(rest) + (b"\n" if mark == "<" else b"")
             else:
@@ -168,7 +168,7 @@ def read_opening(table: Table) -> Opening:
     return Opening(given, output)
 
 
-def with_openings(table: Table, openings: Mapping[str, Opening]) -> Table:
+def check_table_and_put_opening_before(table: Table, openings: Mapping[str, Opening]) -> Table:
     """A table with the openings before it, and with the one that it names."""
     if table.opening not in openings:
         raise RowError("there is no such opening")
@@ -184,7 +184,7 @@ def tables_with_openings(file: Path, known: Mapping[str, Opening]) -> Iterator[T
     openings = dict(known)
     for table in parse_tables(file):
         with add_row_to_errors(table.heading):
-            whole = with_openings(table, openings)
+            whole = check_table_and_put_opening_before(table, openings)
         yield whole
         if table.kind == "opening":
             openings = {**openings, table.name: read_opening(whole)}

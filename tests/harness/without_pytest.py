@@ -15,7 +15,7 @@ from harness.compare import RowResult  # noqa: E402
 from harness.kinds import CaseGroup, error_group, read_groups  # noqa: E402
 from harness.run_rows import Programs, Selection, check_selection, check_selections_in_step  # noqa: E402
 from harness.run_rows import interrupt_at_sigterm, programs_in, proved_programs  # noqa: E402
-from harness.tables import DrawOptions, CaseRow, place_in_tree  # noqa: E402
+from harness.tables import DrawOptions, CaseRow, path_below_top  # noqa: E402
 
 
 def row_files_in(path: Path) -> list[Path]:
@@ -29,7 +29,7 @@ def read_groups_in(path: Path, draw_options: DrawOptions) -> Iterator[CaseGroup]
         if file.suffix == ".cases":
             yield from read_groups(file, draw_options)
         else:
-            row = CaseRow(place_in_tree(file.absolute()), 1, "")
+            row = CaseRow(path_below_top(file.absolute()), 1, "")
             yield error_group(file.name, row, "python3-pytest is missing")
 
 
@@ -39,9 +39,9 @@ def chosen_programs(options: argparse.Namespace) -> Programs:
     return Programs() if options.unproved else proved_programs()
 
 
-def check_groups(selections: Sequence[Selection], programs: Programs) -> Iterator[list[RowResult]]:
+def check_alone_if_built_else_in_step(selections: Sequence[Selection], programs: Programs) -> Iterator[list[RowResult]]:
     """The results of each group."""
-    if programs.are_built([group for group, _ in selections]):
+    if programs.are_all_built_for([group for group, _ in selections]):
         return (check_selection(it, programs) for it in selections)
     return check_selections_in_step(selections, programs)
 
@@ -90,7 +90,7 @@ def main(arguments: Sequence[str]) -> int:
     groups = [group for path in options.paths for group in read_groups_in(path, draw_options)]
     selections: list[Selection] = [(group, group.cases) for group in groups]
     passed = failed = unanswered = 0
-    for group, results in zip(groups, check_groups(selections, programs)):
+    for group, results in zip(groups, check_alone_if_built_else_in_step(selections, programs)):
         for case, it in zip(group.cases, results):
             passed, failed = passed + (it == RowResult()), failed + bool(it.fault)
             if it.fault:

@@ -36,7 +36,7 @@ class Board:
         self.sacked = joined([*self.sacked, *within([(start, end)], self.una, self.top)])
         return size(self.sacked) > before
 
-    def skip(self) -> None:
+    def skip_sacked_octets_at_next(self) -> None:
         """Sending goes on after the SACKed octets that it stands at."""
         for start, end in self.sacked:
             if start <= self.next < end:
@@ -75,23 +75,23 @@ class Board:
         free = self.free()
         return size(free) - size(self.lost()) + size(within(free, self.una, high_rxt))
 
-    def holes(self, high_rxt: int) -> Spans:
+    def holes_not_sent_again(self, high_rxt: int) -> Spans:
         """The octets that weren't sent again and lie below a SACKed one."""
         last = self.sacked[-1][1] if self.sacked else 0
         return within(self.free(), high_rxt, last)
 
-    def hole(self, high_rxt: int) -> int | None:
+    def first_hole_start(self, high_rxt: int) -> int | None:
         """The first of these."""
-        return next((start for start, _ in self.holes(high_rxt)), None)
+        return next((start for start, _ in self.holes_not_sent_again(high_rxt)), None)
 
-    def lost_hole(self, high_rxt: int) -> int | None:
+    def first_lost_hole_start(self, high_rxt: int) -> int | None:
         """The first of these that is lost."""
         edge = self.lost_below()
-        return next((start for start, _ in self.holes(high_rxt) if start < edge), None)
+        return next((start for start, _ in self.holes_not_sent_again(high_rxt) if start < edge), None)
 
     # ---- what may be sent
 
-    def segment_at(self, start: int) -> Span:
+    def resent_segment_up_to_next_sacked(self, start: int) -> Span:
         """The segment that is sent again from here: up to the next SACKed octet."""
         above = [max(left, start) for left, right in self.sacked if right > start]
         return start, min([start + self.smss, self.top, *above])
@@ -104,7 +104,7 @@ class Board:
         start, end = free[-1]
         return max(start, end - self.smss), end
 
-    def new_segment(self, rwnd: int) -> Span | None:
+    def new_segment_if_whole_in_rwnd(self, rwnd: int) -> Span | None:
         """A segment of octets that were never sent, where there are some and the peer's window takes it."""
         end = min(self.top + self.smss, self.end)
         return (self.top, end) if self.top < end <= self.una + rwnd else None

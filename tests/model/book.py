@@ -90,7 +90,7 @@ class Connection:
             case "e":
                 return f"Limit({line})"
             case "k":
-                return self.expect(line)
+                return self.take_syn_ack_once_or_give_fail_verdict(line)
             case "g" | "j" | "l":
                 return None if self.arrive(kind) else f"Unsupported({line})"
         return None if self.call(kind) else f"Fail({line}, Result)"
@@ -108,7 +108,7 @@ class Connection:
             self.uses |= AT_SYN if kind == "j" else set()
         return is_next
 
-    def expect(self, line: int) -> str | None:
+    def take_syn_ack_once_or_give_fail_verdict(self, line: int) -> str | None:
         """The answer to the SYN."""
         if self.made == 4 and not self.is_answer_taken:
             self.is_answer_taken = True
@@ -150,7 +150,7 @@ class Walk:
     uses: frozenset[str]
 
 
-def walk(text: Text, settings: Settings, most: int | None = None) -> Walk:
+def verdict_steps_and_uses_of_text(text: Text, settings: Settings, most: int | None = None) -> Walk:
     """The run of a text, or of its first events alone."""
     if "f" in text:
         return Walk(f"Syntax({text.index('f') + 1})", 0, 0, frozenset())
@@ -168,7 +168,7 @@ def walk(text: Text, settings: Settings, most: int | None = None) -> Walk:
     return Walk(f"Pass({passed})", passed, passed, frozenset(connection.uses))
 
 
-def front(one: Text, other: Text) -> int:
+def count_equal_first_lines(one: Text, other: Text) -> int:
     """How many lines two texts begin with alike."""
     count = 0
     for kind, another in zip(one, other):
@@ -197,10 +197,10 @@ class Job:
 def spared(job: Job, track: Job) -> int:
     """How many first events of a job its track spares: the greatest multiple of the stride of those that are decided
     alike and passed, up to which the track's run consulted no setting that differs."""
-    whole = walk(track.text, track.settings)
-    most = min(kept(track.text, front(track.text, job.text)), whole.passed)
+    whole = verdict_steps_and_uses_of_text(track.text, track.settings)
+    most = min(kept(track.text, count_equal_first_lines(track.text, job.text)), whole.passed)
     for events in range(most - most % STRIDE, 0, -STRIDE):
-        uses = walk(track.text, track.settings, events).uses
+        uses = verdict_steps_and_uses_of_text(track.text, track.settings, events).uses
         if all(job.settings[key] == track.settings[key] for key in uses):
             return events
     return 0
@@ -213,27 +213,27 @@ class Tracks:
         self.most = most
         self.jobs: dict[str, Job] = {}
 
-    def steps(self, job: Job) -> tuple[int, int]:
+    def use_track_for_spared_and_left_steps(self, job: Job) -> tuple[int, int]:
         """How many events a job's track spares, and how many steps are left."""
         track = self.jobs.get(job.script)
         count = 0
         if track:
             count = spared(job, track)
-            self.keep(track)
-        return count, walk(job.text, job.settings).steps - count
+            self.keep_dropping_least_recently_used(track)
+        return count, verdict_steps_and_uses_of_text(job.text, job.settings).steps - count
 
-    def keep(self, job: Job) -> None:
+    def keep_dropping_least_recently_used(self, job: Job) -> None:
         """Keeps a track in the place of its script's, and drops the one that was used first if there are too many."""
         self.jobs.pop(job.script, None)
         self.jobs[job.script] = job
         if len(self.jobs) > self.most:
             del self.jobs[next(iter(self.jobs))]
 
-    def salvage(self, job: Job, present: Text) -> None:
+    def keep_stale_if_longer_front_in_common(self, job: Job, present: Text) -> None:
         """Keeps the track of a stale result, if it begins with more lines of the present text than the one there."""
         track = self.jobs.get(job.script)
-        if not track or front(track.text, present) < front(job.text, present):
-            self.keep(job)
+        if not track or count_equal_first_lines(track.text, present) < count_equal_first_lines(job.text, present):
+            self.keep_dropping_least_recently_used(job)
 
 
 @dataclass(frozen=True)
@@ -248,7 +248,7 @@ class Act:
     job: int = 0
 
 
-def lines_of(text: Text) -> str:
+def text_as_printed_lines(text: Text) -> str:
     """The lines of a text as they are printed."""
     return " | ".join(LINES[kind] for kind in text)
 
@@ -294,27 +294,29 @@ class Model:
         """By which act a job was started or ended last; nothing where there is no such job."""
         return next((act.kind for act in reversed(self.acts) if act.job == job and job), "")
 
-    def start_of(self, job: int) -> int:
+    def act_number_of_job_start(self, job: int) -> int:
         """After how many acts a job was started."""
         return next(number for number, act in enumerate(self.acts, 1) if act.kind == "Start" and act.job == job)
 
-    def has_job(self, script: str, state: str) -> bool:
+    def has_job_in_state_since_last_change(self, script: str, state: str) -> bool:
         """Whether a job of this state was started since the script's last change."""
         change = self.last_change(script)
         return any(
-            job.script == script and self.start_of(job.number) > change and self.state(job.number) == state
+            job.script == script
+            and self.act_number_of_job_start(job.number) > change
+            and self.state(job.number) == state
             for job in self.jobs
         )
 
     def is_current(self, job: Job) -> bool:
         """Whether the job's script stands, and didn't change since the job's start."""
-        return job.script in self.texts() and self.last_change(job.script) < self.start_of(job.number)
+        return job.script in self.texts() and self.last_change(job.script) < self.act_number_of_job_start(job.number)
 
     def add(self, script: str, text: Text) -> str:
         """Adds a script."""
         if script in self.texts():
             return "6 NameTaken"
-        self.acts.append(Act("Add", f" {script}: {lines_of(text)}", script, text))
+        self.acts.append(Act("Add", f" {script}: {text_as_printed_lines(text)}", script, text))
         return "ok"
 
     def edit(self, script: str, first: int, removed: int, text: Text) -> str:
@@ -324,7 +326,9 @@ class Model:
             return "7 NoSuchScript"
         if first < 1 or first + removed > len(old) + 1:
             return "1 BadRange"
-        self.acts.append(Act("Edit", f" {script} {first} {removed}: {lines_of(text)}", script, text, (first, removed)))
+        self.acts.append(
+            Act("Edit", f" {script} {first} {removed}: {text_as_printed_lines(text)}", script, text, (first, removed))
+        )
         return "ok"
 
     def remove(self, script: str) -> str:
@@ -347,21 +351,21 @@ class Model:
     def start(self) -> Job | None:
         """Starts the job of the first script that has none and whose verdict is owed."""
         for script, text in self.texts().items():
-            if not self.has_job(script, "Finish") and not self.has_job(script, "Start"):
+            if not any(self.has_job_in_state_since_last_change(script, it) for it in ("Finish", "Start")):
                 job = Job(len(self.jobs) + 1, script, text, self.settings())
                 self.jobs.append(job)
                 self.acts.append(Act("Start", f" {job.number} {script}", script, job=job.number))
                 return job
         return None
 
-    def run(self, job: Job) -> str:
+    def run_job_with_its_track(self, job: Job) -> str:
         """Runs a job with its track."""
         track = self.tracks.jobs.get(job.script)
-        count, steps = self.tracks.steps(job)
+        count, steps = self.tracks.use_track_for_spared_and_left_steps(job)
         self.spared += count
         if track and track.settings != job.settings:
             self.spared_behind += count
-        return f"{walk(job.text, job.settings).verdict}, {steps} steps"
+        return f"{verdict_steps_and_uses_of_text(job.text, job.settings).verdict}, {steps} steps"
 
     def finish(self, job: Job) -> str:
         """Finishes a job with its result, and keeps its track where the rules say so."""
@@ -371,12 +375,12 @@ class Model:
         self.acts.append(Act("Finish", f" {job.number} {ruling}", job=job.number))
         present = self.texts().get(job.script)
         if ruling == "Taken":
-            self.tracks.keep(job)
+            self.tracks.keep_dropping_least_recently_used(job)
         elif present is not None:
-            self.tracks.salvage(job, present)
+            self.tracks.keep_stale_if_longer_front_in_common(job, present)
         return ruling
 
-    def give(self, other: Job) -> str:
+    def refuse_foreign_result_of_job(self, other: Job) -> str:
         """Finishes a job with the result of one that no book gave, and that is another one."""
         if self.state(other.number) != "Start":
             return "9 NoSuchJob"
@@ -395,10 +399,14 @@ class Model:
         texts = self.texts()
         settings = self.settings()
         verdicts = {
-            script: walk(text, settings).verdict if self.has_job(script, "Finish") else "pending"
+            script: verdict_steps_and_uses_of_text(text, settings).verdict
+            if self.has_job_in_state_since_last_change(script, "Finish")
+            else "pending"
             for script, text in texts.items()
         }
-        rows = "".join(f"{script} {verdicts[script]}, {lines_of(text)}, " for script, text in texts.items())
+        rows = "".join(
+            f"{script} {verdicts[script]}, {text_as_printed_lines(text)}, " for script, text in texts.items()
+        )
         return f"{settings_text(settings)}{rows}{list(verdicts.values()).count('pending')} owed"
 
     def log(self) -> str:

@@ -1,4 +1,4 @@
-"""A peer and a network: which segments reach the peer, and when its ACKs come back."""
+"""A peer and a network: which segments arrive, whether each is acknowledged at once, and when ACKs come back."""
 
 import random
 from collections.abc import Iterator
@@ -80,15 +80,15 @@ class Network:
         self.count += 1
         if self.count - 1 in self.path.burst or self.dice.random() < self.path.loss:
             return None
-        return segment.at + self.path.round_trip // 2 + self._late()
+        return segment.at + self.path.round_trip // 2 + self._draw_lateness()
 
     def back(self, now: int) -> int | None:
         """When an ACK that leaves now reaches the sender, if it does."""
         if self.dice.random() < self.path.ack_loss:
             return None
-        return now + self.path.round_trip - self.path.round_trip // 2 + self._late()
+        return now + self.path.round_trip - self.path.round_trip // 2 + self._draw_lateness()
 
-    def _late(self) -> int:
+    def _draw_lateness(self) -> int:
         """By how much something is late."""
         if self.dice.random() >= self.path.lateness:
             return 0

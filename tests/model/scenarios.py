@@ -70,7 +70,7 @@ class Due:
     what: "Write | Span | Ack | None" = field(compare=False)
 
 
-def transfers(algorithm: str, first_seed: int) -> Iterator[Transfer]:
+def endless_transfers_from_seed(algorithm: str, first_seed: int) -> Iterator[Transfer]:
     """Transfers one after the other, by these seeds from the first on."""
     for seed in count(first_seed):
         yield _Game(random.Random(f"{algorithm} {seed}"), algorithm).play(seed)
@@ -103,31 +103,37 @@ class _Game:
 
     def play(self, seed: int) -> Transfer:
         """Plays it to its end."""
-        self._open()
+        self._write_handshake_lines()
         for at, octets in self._writes():
-            self._put(at, Write(octets))
+            self._push_due_step(at, Write(octets))
         now = self._start.at
         while len(self._expected) < EVENTS and (due := self._next_moment()) < HORIZON:
             now = due
-            self._step(now)
-        self._settle(now + 1)
-        self._input(now + 1, TICK, [])
+            self._expire_timer_or_do_due_step(now)
+        self._expire_up_to_and_answer_if_any(now + 1)
+        self._write_input_and_note_expected(now + 1, TICK, [])
         script = "".join(f"{it}\n" for it in self._lines)
         sender = self._sender
         expected = tuple(self._expected)
         return Transfer(
-            seed, self._settings(), script, expected, sender.recoveries, sender.acknowledging, self._lost_again
+            seed,
+            self._toml_of_settings_not_default(),
+            script,
+            expected,
+            sender.recoveries,
+            sender.acknowledging,
+            self._lost_again,
         )
 
-    def _open(self) -> None:
+    def _write_handshake_lines(self) -> None:
         """The handshake, which is no part of what is compared."""
         options = [f"mss {self._rules.smss}", *(["sackOK"] if self._rules.has_sack else [])]
         options += [f"wscale {SHIFT}"] if self._has_scale else []
-        self._line(SYN_AT, f"< S 0:0(0) win {SYN_WINDOW} <{','.join(options)}>")
-        self._line(self._start.at, f"< . 1:1(0) ack 1 win {self._field(self._start.window)}")
-        self._line(self._start.at, "accept(3, ..., ...) = 4")
+        self._append_line_with_time_gap(SYN_AT, f"< S 0:0(0) win {SYN_WINDOW} <{','.join(options)}>")
+        self._append_line_with_time_gap(self._start.at, f"< . 1:1(0) ack 1 win {self._field(self._start.window)}")
+        self._append_line_with_time_gap(self._start.at, "accept(3, ..., ...) = 4")
 
-    def _settings(self) -> str:
+    def _toml_of_settings_not_default(self) -> str:
         """The settings as TOML has them, where they aren't the defaults."""
         rules = self._rules
         values: dict[str, tuple[object, object]] = {
@@ -140,72 +146,74 @@ class _Game:
             "recovery_algorithm": (rules.algorithm, RFC6675),
             "slow_start_after_idle": (rules.restarts, False),
         }
-        return "\n".join(f"{key} = {_toml(value)}" for key, (value, default) in values.items() if value != default)
+        return "\n".join(
+            f"{key} = {_toml_of_value(value)}" for key, (value, default) in values.items() if value != default
+        )
 
     # ---- what is due
 
-    def _put(self, at: int, what: Write | Span | Ack | None) -> None:
+    def _push_due_step(self, at: int, what: Write | Span | Ack | None) -> None:
         heapq.heappush(self._due, Due(at, next(self._places), what))
 
     def _next_moment(self) -> int:
         moments = [it.at for it in self._due[:1]] + ([] if self._sender.expiry is None else [self._sender.expiry])
         return min(moments, default=HORIZON)
 
-    def _step(self, now: int) -> None:
+    def _expire_timer_or_do_due_step(self, now: int) -> None:
         """Lets the timer expire up to a moment or, where it doesn't, does the step that is due then."""
-        if self._settle(now):
+        if self._expire_up_to_and_answer_if_any(now):
             return
         what = heapq.heappop(self._due).what
         if isinstance(what, Write):
             taken = min(what.octets, SNDBUF - (self._sender.board.end - self._sender.board.una))
             if taken > 0:
                 sent = self._sender.write(now, taken)
-                self._input(now, f"write(4, ..., {taken}) = {taken}", sent)
+                self._write_input_and_note_expected(now, f"write(4, ..., {taken}) = {taken}", sent)
         elif isinstance(what, Ack):
             sent = self._sender.acknowledge(now, what.number, what.window, what.blocks)
-            self._input(now, self._ack_text(what), sent)
+            self._write_input_and_note_expected(now, self._ack_text(what), sent)
         elif what is None:
             if self._peer.waiting:
-                self._acknowledge(now)
+                self._send_ack_from_peer_unless_lost(now)
         elif self._peer.take(what):
-            self._acknowledge(now)
+            self._send_ack_from_peer_unless_lost(now)
         else:
-            self._put(now + 40 * MILLISECOND, None)
+            self._push_due_step(now + 40 * MILLISECOND, None)
 
-    def _settle(self, now: int) -> bool:
+    def _expire_up_to_and_answer_if_any(self, now: int) -> bool:
         """The expiries up to a moment; whether there was one."""
         has_expired = False
         while self._sender.expiry is not None and self._sender.expiry <= now:
             has_expired = True
-            self._note(self._sender.expire(), state_of(self._sender))
+            self._note_sent_and_schedule_arrivals(self._sender.expire(), state_of(self._sender))
         return has_expired
 
-    def _acknowledge(self, now: int) -> None:
+    def _send_ack_from_peer_unless_lost(self, now: int) -> None:
         ack = self._peer.acknowledge()
         if (at := self._network.back(now)) is not None:
-            self._put(at, ack)
+            self._push_due_step(at, ack)
 
     # ---- what happens
 
-    def _input(self, now: int, line: str, sent: Sequence[Segment]) -> None:
-        self._line(now, line)
+    def _write_input_and_note_expected(self, now: int, line: str, sent: Sequence[Segment]) -> None:
+        self._append_line_with_time_gap(now, line)
         state = state_of(self._sender)
         self._expected.append(Expected(now, line, state))
-        self._note(sent, state)
+        self._note_sent_and_schedule_arrivals(sent, state)
 
-    def _note(self, sent: Sequence[Segment], state: str) -> None:
+    def _note_sent_and_schedule_arrivals(self, sent: Sequence[Segment], state: str) -> None:
         """Segments were sent, all by one input or expiry, which led to this state."""
         for it in sent:
             flags = "P." if it.has_push else "."
             line = f"> {flags} {it.start}:{it.end}({it.end - it.start}) ack 1 win {self._field(OWN_WINDOW)}"
             self._expected.append(Expected(it.at, line, state))
             if (at := self._network.arrival(it)) is not None:
-                self._put(at, (it.start, it.end))
+                self._push_due_step(at, (it.start, it.end))
             elif it.start < self._sent_to and self._sender.window.is_recovering:
                 self._lost_again += 1
             self._sent_to = max(self._sent_to, it.end)
 
-    def _line(self, now: int, line: str) -> None:
+    def _append_line_with_time_gap(self, now: int, line: str) -> None:
         gap = now - self._input_at
         self._lines.append(f"+{gap // SECOND}.{gap % SECOND:06} {line}")
         self._input_at = now
@@ -225,11 +233,11 @@ class _Game:
         most = 65_535 << SHIFT if self._has_scale else 65_535
         wide = min(most, 60 * self._rules.smss)
         if self._dice.random() < 0.7:
-            return (self._whole(wide),)
+            return (self._window_rounded_down_to_scale(wide),)
         few = [self._dice.randrange(3, 40) * self._rules.smss for _ in range(self._dice.randrange(1, 6))]
-        return tuple(self._whole(min(most, it)) for it in few)
+        return tuple(self._window_rounded_down_to_scale(min(most, it)) for it in few)
 
-    def _whole(self, window: int) -> int:
+    def _window_rounded_down_to_scale(self, window: int) -> int:
         return window >> SHIFT << SHIFT if self._has_scale else window
 
     def _writes(self) -> Iterator[tuple[int, int]]:
@@ -269,7 +277,7 @@ def _path(dice: random.Random) -> Path:
     return Path(trip, loss, dice.choice((0.0, 0.0, 0.05, 0.3, 0.6)), dice.choice((0.0, 0.0, 0.05, 0.2)), burst)
 
 
-def _toml(value: object) -> str:
+def _toml_of_value(value: object) -> str:
     if isinstance(value, bool):
         return "true" if value else "false"
     return f'"{value}"' if isinstance(value, str) else str(value)

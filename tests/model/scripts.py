@@ -33,7 +33,7 @@ class Player:
     sent: list[Segment] = field(default_factory=list)
     clock: int = 0
 
-    def play(self, item: Item) -> str:
+    def play_event_and_answer_what_is_unmet(self, item: Item) -> str:
         """Plays an event; what of it isn't met, if something isn't."""
         time = item.time
         assert time is not None
@@ -45,7 +45,7 @@ class Player:
                 return self._await(packet, first, last)
             case Packet() as packet:
                 self._pass_to(first or 0)
-                self._arrive(packet)
+                self._take_syn_or_ack_of_peer(packet)
             case Call() as call:
                 self._pass_to(first or 0)
                 self._call(call)
@@ -77,7 +77,7 @@ class Player:
         is_in_time = first - TOLERANCE <= segment.at <= last + TOLERANCE
         return "" if is_in_time else f"{segment} isn't between {first} and {last}"
 
-    def _arrive(self, packet: Packet) -> None:
+    def _take_syn_or_ack_of_peer(self, packet: Packet) -> None:
         if self.syn is None:
             self.syn, self.syn_at = packet, self.clock
         elif packet.flags != "." or packet.ack is None or packet.start != 1 or packet.win is None:
@@ -137,13 +137,13 @@ def fault_of(path: Path) -> str:
     for table in reversed(list(settings_tables_for(path))):
         settings |= table
     player = Player(settings)
-    for item in _events(parse_items_until_syntax_error(path.read_text()).items):
-        if fault := player.play(item):
+    for item in _events_refusing_a_header(parse_items_until_syntax_error(path.read_text()).items):
+        if fault := player.play_event_and_answer_what_is_unmet(item):
             return f"{path}:{item.line}: {fault}"
     return ""
 
 
-def _events(items: Sequence[Item]) -> Iterator[Item]:
+def _events_refusing_a_header(items: Sequence[Item]) -> Iterator[Item]:
     for item in items:
         if item.time is None:
             raise Unplayed("a header")

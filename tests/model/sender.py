@@ -61,7 +61,7 @@ class Sender:
         self.most_window = max(start.syn_window, start.window)
         self.sent_at = start.syn_at
         if start.is_resent:
-            self.rto = self._in_range(3 * SECOND)
+            self.rto = self._clamped_rto(3 * SECOND)
         else:
             self._sample(start.at - start.syn_at)
 
@@ -70,7 +70,7 @@ class Sender:
     def write(self, now: int, count: int) -> list[Segment]:
         """Octets are queued."""
         self.board.end += count
-        return [] if self.window.is_recovering else list(self._ordinary(now))
+        return [] if self.window.is_recovering else list(self._restart_if_idle_then_send_ready(now))
 
     def acknowledge(self, now: int, number: int, window: int, blocks: Sequence[Span]) -> list[Segment]:
         """An ACK of octets that were sent."""
@@ -79,10 +79,10 @@ class Sender:
             return []
         known = Known.of(board)
         board.acknowledge(number)
-        has_new_sack = self._mark(blocks)
+        has_new_sack = self._mark_blocks_and_answer_if_any_new(blocks)
         ack = Ack.on(board, known, window, window == self.rwnd, has_new_sack)
         if ack.acked:
-            self._time(now)
+            self._sample_and_restart_timer_after_ack(now)
         self.rwnd = window
         self.most_window = max(self.most_window, window)
         return list(self._respond(now, ack))
@@ -95,8 +95,8 @@ class Sender:
         self.timed = None
         self.rto = min(2 * self.rto, self.rules.most_rto)
         self.expiry = now + self.rto
-        span = self.board.segment_at(self.board.una)
-        segment = self._send(now, span)
+        span = self.board.resent_segment_up_to_next_sacked(self.board.una)
+        segment = self._send_and_start_timers_if_off(now, span)
         self.board.sent(span[1])
         return [segment]
 
@@ -112,26 +112,26 @@ class Sender:
         self.acknowledging += kind == "entry" and ack.acked > 0
         match kind:
             case "limited":
-                yield from self._early(now)
+                yield from self._limited_transmit(now)
             case "entry":
                 self.window.pace(self.pipe())
-                yield self._send(now, self.window.enter(self.board))
+                yield self._send_and_start_timers_if_off(now, self.window.take_first_segment_of_recovery(self.board))
                 yield from self._step_c(now)
             case "step-c":
                 self.window.pace(self.pipe())
                 yield from self._step_c(now)
             case "segment" if span is not None:
-                yield self._send_new(now, span)
+                yield self._send_and_move_next_to_its_end(now, span)
             case "again" if span is not None:
-                yield self._send(now, span)
+                yield self._send_and_start_timers_if_off(now, span)
         if kind in ("ordinary", "again"):
-            yield from self._ordinary(now)
+            yield from self._restart_if_idle_then_send_ready(now)
 
-    def _early(self, now: int) -> Iterator[Segment]:
+    def _limited_transmit(self, now: int) -> Iterator[Segment]:
         """Limited transmit (RFC 6675, section 5, step 3; RFC 3042)."""
         pipe = self.pipe()
-        while self.window.has_room(pipe) and (span := self.board.new_segment(self.rwnd)) is not None:
-            yield self._send_new(now, span)
+        while self.window.has_room(pipe) and (span := self.board.new_segment_if_whole_in_rwnd(self.rwnd)) is not None:
+            yield self._send_and_move_next_to_its_end(now, span)
             pipe += span[1] - span[0]
             self.window.limited += span[1] - span[0]
 
@@ -140,27 +140,28 @@ class Sender:
         pipe = self.pipe()
         while self.window.has_room(pipe) and (found := self.window.next_seg(self.board, self.rwnd)) is not None:
             rule, span = found
-            yield self._send_new(now, span) if rule == "new" else self._send(now, span)
-            self.window.note(rule, span)
+            send = self._send_and_move_next_to_its_end if rule == "new" else self._send_and_start_timers_if_off
+            yield send(now, span)
+            self.window.note_segment_sent_by_rule(rule, span)
             pipe += span[1] - span[0]
 
     # ---- sending
 
-    def _ordinary(self, now: int) -> Iterator[Segment]:
+    def _restart_if_idle_then_send_ready(self, now: int) -> Iterator[Segment]:
         """RFC 5681, section 3.1; RFC 9293, sections 3.7.4 and 3.8.6.2.1."""
         board = self.board
         if self.rules.restarts and not board.flight and now - self.sent_at > self.rto:
             self.window.restart()
-        while (span := self._ready()) is not None:
-            yield self._send_new(now, span)
+        while (span := self._segment_at_next_by_window_and_nagle()) is not None:
+            yield self._send_and_move_next_to_its_end(now, span)
 
-    def _ready(self) -> Span | None:
+    def _segment_at_next_by_window_and_nagle(self) -> Span | None:
         """The segment that ordinary sending may send."""
         board = self.board
-        board.skip()
+        board.skip_sacked_octets_at_next()
         edge = board.una + min(self.window.cwnd, self.rwnd)
         if board.next < board.top:
-            span = board.segment_at(board.next)
+            span = board.resent_segment_up_to_next_sacked(board.next)
             return span if span[1] <= edge else None
         queued, usable, smss = board.end - board.next, edge - board.next, self.rules.smss
         count = min(queued, usable, smss)
@@ -170,13 +171,13 @@ class Sender:
             return None
         return board.next, board.next + count
 
-    def _send_new(self, now: int, span: Span) -> Segment:
+    def _send_and_move_next_to_its_end(self, now: int, span: Span) -> Segment:
         """A segment leaves, after which sending goes on."""
-        segment = self._send(now, span)
+        segment = self._send_and_start_timers_if_off(now, span)
         self.board.sent(span[1])
         return segment
 
-    def _send(self, now: int, span: Span) -> Segment:
+    def _send_and_start_timers_if_off(self, now: int, span: Span) -> Segment:
         """A segment leaves (RFC 6298, sections 3 and 5.1)."""
         start, end = span
         if self.timed is not None and start < self.timed[1] and self.timed[0] < end:
@@ -188,14 +189,14 @@ class Sender:
             self.expiry = now + self.rto
         return Segment(now, start, end, end == self.board.end)
 
-    def _mark(self, blocks: Sequence[Span]) -> bool:
+    def _mark_blocks_and_answer_if_any_new(self, blocks: Sequence[Span]) -> bool:
         """Marks blocks of octets that were sent; whether one tells new octets."""
         good = [it for it in blocks if self.rules.has_sack and it[0] < it[1] <= self.board.top]
         return any([self.board.mark(*it) for it in good])
 
     # ---- the timer (RFC 6298)
 
-    def _time(self, now: int) -> None:
+    def _sample_and_restart_timer_after_ack(self, now: int) -> None:
         """New octets are acknowledged (sections 3, 5.2 and 5.3)."""
         if self.timed is not None and self.timed[1] <= self.board.una:
             self._sample(now - self.timed[2])
@@ -209,7 +210,7 @@ class Sender:
         else:
             self.rttvar = (3 * self.rttvar + abs(self.srtt - took)) // 4
             self.srtt = (7 * self.srtt + took) // 8
-        self.rto = self._in_range(self.srtt + max(self.rules.granularity, 4 * self.rttvar))
+        self.rto = self._clamped_rto(self.srtt + max(self.rules.granularity, 4 * self.rttvar))
 
-    def _in_range(self, rto: int) -> int:
+    def _clamped_rto(self, rto: int) -> int:
         return min(max(rto, self.rules.least_rto), self.rules.most_rto)

@@ -1,4 +1,4 @@
-"""Congestion control and loss recovery: RFC 5681, RFC 3465, RFC 3042, RFC 6675, RFC 9937."""
+"""Congestion control and loss recovery (RFC 5681, 3465, 3042, 6675, 9937), and which sending follows an ACK."""
 
 from dataclasses import dataclass
 
@@ -97,7 +97,7 @@ class Window:
             self.cwnd += max(smss * smss // self.cwnd, 1)
         self.cwnd = min(self.cwnd, MOST_WINDOW)
 
-    def half(self, board: Board) -> int:
+    def half_of_flight_less_limited(self, board: Board) -> int:
         """Half of FlightSize, without what limited transmit sent (RFC 5681, sections 3.1 and 3.2)."""
         return max((board.flight - self.limited) // 2, 2 * board.smss)
 
@@ -117,14 +117,14 @@ class Window:
             self.duplicates = self.limited = 0
             self.has_expired = False
         if not self.rules.has_sack:
-            return self._without_sack(board, ack)
+            return self._take_ack_without_sack(board, ack)
         if self.is_recovering:
-            return self._in_recovery(board, ack), None
+            return self._take_ack_in_sack_recovery(board, ack), None
         if ack.acked:
             self.grow(ack.acked)
-        return (self._duplicate(board, ack) if ack.has_new_sack else "ordinary"), None
+        return (self._take_duplicate_with_sack(board, ack) if ack.has_new_sack else "ordinary"), None
 
-    def _in_recovery(self, board: Board, ack: Ack) -> str:
+    def _take_ack_in_sack_recovery(self, board: Board, ack: Ack) -> str:
         """RFC 6675, section 5, steps A to C."""
         if board.una >= self.recovery_point:
             self.is_recovering = False
@@ -137,7 +137,7 @@ class Window:
         self._note_ack(ack)
         return "step-c"
 
-    def _duplicate(self, board: Board, ack: Ack) -> str:
+    def _take_duplicate_with_sack(self, board: Board, ack: Ack) -> str:
         """Takes a duplicate with SACK; gives the kind of sending that follows (RFC 6675, section 5, steps 1 to 4)."""
         self.duplicates += 1
         if board.una < self.recovery_point:
@@ -147,7 +147,7 @@ class Window:
                 return "ordinary"
             self.high_rxt = board.una
             return "limited"
-        self.cwnd = self.ssthresh = self.half(board)
+        self.cwnd = self.ssthresh = self.half_of_flight_less_limited(board)
         self.is_recovering = True
         self.recovery_point = board.top
         self.high_rxt = board.una
@@ -156,7 +156,7 @@ class Window:
         self._note_ack(ack)
         return "entry"
 
-    def _without_sack(self, board: Board, ack: Ack) -> tuple[str, Span | None]:
+    def _take_ack_without_sack(self, board: Board, ack: Ack) -> tuple[str, Span | None]:
         """RFC 5681, section 3.2."""
         if ack.acked and self.is_recovering:
             self.cwnd = self.ssthresh
@@ -165,48 +165,48 @@ class Window:
             self.grow(ack.acked)
         elif ack.is_same_window and board.flight and board.una >= self.recovery_point:
             self.duplicates += 1
-            return self._plain_duplicate(board, ack.rwnd)
+            return self._take_duplicate_without_sack(board, ack.rwnd)
         return "ordinary", None
 
-    def _plain_duplicate(self, board: Board, rwnd: int) -> tuple[str, Span | None]:
+    def _take_duplicate_without_sack(self, board: Board, rwnd: int) -> tuple[str, Span | None]:
         """A duplicate without SACK (RFC 5681, section 3.2; RFC 3042)."""
         if self.duplicates < DUP_THRESH:
-            segment = board.new_segment(rwnd) if self.rules.transmits_early else None
+            segment = board.new_segment_if_whole_in_rwnd(rwnd) if self.rules.transmits_early else None
             if segment is None or segment[1] - board.una > self.cwnd + 2 * board.smss:
                 return "nothing", None
             self.limited += segment[1] - segment[0]
             return "segment", segment
         if self.duplicates == DUP_THRESH:
-            self.ssthresh = self.half(board)
+            self.ssthresh = self.half_of_flight_less_limited(board)
             self.cwnd = self.ssthresh + 3 * board.smss
             self.is_recovering = True
-            return "again", board.segment_at(board.una)
+            return "again", board.resent_segment_up_to_next_sacked(board.una)
         self.cwnd = min(self.cwnd + board.smss, MOST_WINDOW)
         return "ordinary", None
 
     # ---- sending in a recovery with SACK
 
-    def enter(self, board: Board) -> Span:
+    def take_first_segment_of_recovery(self, board: Board) -> Span:
         """The first segment of a recovery (RFC 6675, section 5, steps 4.2 and 4.3), which is sent."""
-        segment = board.segment_at(board.una)
+        segment = board.resent_segment_up_to_next_sacked(board.una)
         self.high_rxt = self.rescue_rxt = segment[1]
         self._note_out(segment)
         return segment
 
     def next_seg(self, board: Board, rwnd: int) -> tuple[str, Span] | None:
         """NextSeg (RFC 6675, section 4): the rule that chooses, and its segment."""
-        lost, hole = board.lost_hole(self.high_rxt), board.hole(self.high_rxt)
+        lost, hole = board.first_lost_hole_start(self.high_rxt), board.first_hole_start(self.high_rxt)
         if lost is not None:
-            return "lost", board.segment_at(lost)
-        if (new := board.new_segment(rwnd)) is not None:
+            return "lost", board.resent_segment_up_to_next_sacked(lost)
+        if (new := board.new_segment_if_whole_in_rwnd(rwnd)) is not None:
             return "new", new
         if hole is not None:
-            return "hole", board.segment_at(hole)
+            return "hole", board.resent_segment_up_to_next_sacked(hole)
         if board.una > self.rescue_rxt and (rescue := board.rescue()) is not None:
             return "rescue", rescue
         return None
 
-    def note(self, rule: str, segment: Span) -> None:
+    def note_segment_sent_by_rule(self, rule: str, segment: Span) -> None:
         """A segment of NextSeg is sent."""
         if rule in ("lost", "hole"):
             self.high_rxt = segment[1]

@@ -174,12 +174,26 @@ shell_small() { # TEXT: the last lines of tests/shell.sh, of which one file is t
     counted 2 env -u SHELL_TEST "$small/tests/shell.sh" own
 }
 
+shell_files() { # TEXT TEXT: the last lines of tests/shell.sh, of which two files are these
+    echo "$2" >"$small/tests/shell/other.sh"
+    cp "$top/tests/shell.sh" "$small/tests"
+    cp "$top/tests/shell/common.sh" "$small/tests/shell"
+    echo "$1" >"$small/tests/shell/own.sh"
+    counted 3 env -u SHELL_TEST "$small/tests/shell.sh" own other
+}
+
 test_shell() {
     expect shell-pass "$(printf 'ok shell b\n2 passed, 0 failed\nstatus 0')" shell_small "expect a 'status 0' true; expect b 'status 3' sh -c 'exit 3'"
     expect shell-another-status "$(printf '> status 1\n0 passed, 1 failed\nstatus 1')" shell_small "expect a 'status 0' false"
     expect shell-another-line "$(printf 'ok shell b\n1 passed, 1 failed\nstatus 1')" shell_small "expect a 'status 0' echo c; expect b 'status 0' true"
     expect shell-a-line-of-errors "$(printf 'ok shell b\n1 passed, 1 failed\nstatus 1')" shell_small "expect a 'status 0' sh -c 'echo c >&2'; expect b 'status 0' true"
     expect shell-no-such-file "$(printf 'status 2')" no_such_file
+    expect shell-files-in-their-order "$(printf 'ok shell a\nok shell b\n2 passed, 0 failed\nstatus 0')" \
+        shell_files "sleep 0.2; expect a 'status 0' true" "expect b 'status 0' true"
+    expect shell-files-fail "$(printf '> status 1\nok shell b\n1 passed, 1 failed\nstatus 1')" \
+        shell_files "expect a 'status 0' false" "expect b 'status 0' true"
+    expect shell-a-file-comes-to-no-end "$(printf 'ok shell b\nFAILED shell other: it came to no end\n1 passed, 1 failed\nstatus 1')" \
+        shell_files "expect a 'status 0' true" "expect b 'status 0' true; exit 0"
 }
 
 no_such_file() {

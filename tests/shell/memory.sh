@@ -6,7 +6,7 @@ memory() { # COMMAND: what is counted with this fake, and the status
     return "$code"
 }
 
-# No table of calls has met a refusal, which is a fault of each. The other rows are well: one of test_book, 18 of pdregress
-# (four inputs, one of them named, and two settings, beside none, one and two workers) and six of pdrecord.
+# No table of calls has met a refusal, which is a fault of each. The other rows are well: one of test_book, 19 of pdregress
+# (four inputs, one of them named, and two settings, beside none, one and two workers; and `--rules`) and six of pdrecord.
 tables=$(cat "$top/crates/test_book/memory.txt" "$top/crates/test_desk/memory.txt" | grep -c '^== ')
-expect memory-that-no-call-lacks "$(printf '25 passed, %s failed\nstatus 1' "$tables")" memory "$(command -v true)"
+expect memory-that-no-call-lacks "$(printf '26 passed, %s failed\nstatus 1' "$tables")" memory "$(command -v true)"

@@ -32,16 +32,16 @@ class Difference:
     words: str
 
 
-def tolerance_of(awaited: float) -> float:
+def tolerance_from_awaited_seconds(awaited: float) -> float:
     """How far a time may be off: an eighth of what is awaited, but at least 10 ms.
 
-    >>> [tolerance_of(it) for it in (0.0, 1.0)]
+    >>> [tolerance_from_awaited_seconds(it) for it in (0.0, 1.0)]
     [0.01, 0.125]
     """
     return max(LEAST_TOLERANCE, awaited / 8)
 
 
-def is_expected_packet(expected: Packet, seen: SeenPacket) -> bool:
+def has_expected_sequence_and_syn_fin_rst(expected: Packet, seen: SeenPacket) -> bool:
     """Whether a packet is the expected one, so that the run can go on where other fields differ."""
     kinds = frozenset("SFR")
     same_numbers = (expected.start, expected.length) == (seen.start, seen.length)

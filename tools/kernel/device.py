@@ -90,7 +90,7 @@ class Device:
         """Lets a packet arrive; the kernel has dealt with it when the write returns."""
         os.write(self.tun, encode_packet(packet, self.isn or 0))
 
-    def sleep_one_beat(self, until: float) -> bool:
+    def wait_at_most_a_beat_for_packet(self, until: float) -> bool:
         """Sleeps up to a moment, or for a beat, and says whether the kernel has sent something."""
         before = self.now()
         most = min(BEAT, max(0.0, until - before))
@@ -98,10 +98,10 @@ class Device:
         self.late = max(self.late, self.now() - before - most)
         return bool(ready)
 
-    def queue_next_packet(self, until: float) -> bool:
+    def queue_next_packet_waiting_until(self, until: float) -> bool:
         """Waits for the next packet of the kernel up to a moment, and keeps it; False if none came."""
         while True:
-            if not self.sleep_one_beat(until):
+            if not self.wait_at_most_a_beat_for_packet(until):
                 if self.now() >= until:
                     return False
                 continue
@@ -113,13 +113,13 @@ class Device:
 
     def queue_packets_until(self, until: float) -> None:
         """Waits up to a moment, and keeps what is sent meanwhile."""
-        while self.queue_next_packet(until):
+        while self.queue_next_packet_waiting_until(until):
             pass
 
-    def take_oldest_packet(self, until: float) -> SeenPacket | None:
+    def take_oldest_packet_waiting_until(self, until: float) -> SeenPacket | None:
         """The oldest packet that wasn't taken yet; it may come up to a moment."""
         if not self.untaken:
-            self.queue_next_packet(until)
+            self.queue_next_packet_waiting_until(until)
         return self.untaken.popleft() if self.untaken else None
 
 

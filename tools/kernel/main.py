@@ -1,4 +1,4 @@
-"""The options of the command, and the runs of its scripts side by side."""
+"""The options of the command kernel.py, and its scripts one after another, with the runs of each side by side."""
 
 from __future__ import annotations
 
@@ -16,7 +16,7 @@ from kernel.compare import FIELDS
 from kernel.device import NoDevice
 from kernel.report import script_lines, total_line
 from kernel.run import RunOutcome, run_script
-from kernel.script import TimedEvent, UnsupportedScript, read_script
+from kernel.script import TimedEvent, UnsupportedScript, parse_script_into_runnable_events
 from kernel.settings import Tuning, settings_of, tuning_of
 from pdsuite.faults import Fault
 
@@ -88,7 +88,7 @@ def script_files(paths: Sequence[Path]) -> Iterator[Path]:
 def read_job(path: Path, options: KernelOptions) -> ScriptJob:
     """Reads a script and its settings."""
     text = path.read_text(encoding="latin-1")
-    events = read_script(text)
+    events = parse_script_into_runnable_events(text)
     settings = settings_of(path, text, options.settings)
     return ScriptJob(path, events, tuning_of(events, settings, options.switches), options.ignored)
 
@@ -98,7 +98,7 @@ def make_pool(jobs: int) -> Pool:
     return get_context("fork").Pool(jobs, maxtasksperchild=1)
 
 
-def run_once(job: ScriptJob) -> RunOutcome | UnsupportedScript | NoDevice:
+def run_once_returning_any_fault(job: ScriptJob) -> RunOutcome | UnsupportedScript | NoDevice:
     """A run in a process of its own; a fault comes back as a value."""
     try:
         return run_script(job.events, job.tuning, job.ignored)
@@ -106,13 +106,13 @@ def run_once(job: ScriptJob) -> RunOutcome | UnsupportedScript | NoDevice:
         return fault
 
 
-def undisturbed_outcomes(pool: Pool, job: ScriptJob, runs: int) -> list[RunOutcome]:
+def outcomes_retrying_disturbed_runs(pool: Pool, job: ScriptJob, runs: int) -> list[RunOutcome]:
     """The runs of a script; those in which the tool was late are made again, a few times."""
     done: list[RunOutcome] = []
     for turn in range(1 + SECOND_TRIES):
         wanted = runs - len(done)
         found = []
-        for result in pool.map(run_once, [job] * wanted, chunksize=1):
+        for result in pool.map(run_once_returning_any_fault, [job] * wanted, chunksize=1):
             if not isinstance(result, RunOutcome):
                 raise result
             found.append(result)
@@ -132,14 +132,14 @@ def print_outcomes(job: ScriptJob, outcomes: Sequence[RunOutcome], options: Kern
     sys.stdout.flush()
 
 
-def run_scripts(options: KernelOptions, pool: Pool) -> int:
+def run_scripts_in_turn_returning_status(options: KernelOptions, pool: Pool) -> int:
     """Runs the scripts one after the other, and prints the settings wherever they change."""
     results: list[list[RunOutcome]] = []
     refused, last = 0, ""
     for path in options.files:
         try:
             job = read_job(path, options)
-            outcomes = undisturbed_outcomes(pool, job, options.runs)
+            outcomes = outcomes_retrying_disturbed_runs(pool, job, options.runs)
         except UnsupportedScript as fault:
             print(f"{path}: not run, {fault}")
             refused += 1
@@ -160,7 +160,7 @@ def main(arguments: Sequence[str]) -> int:
     print(f"kernel {os.uname().release}, {options.runs} runs each, ignoring {ignored}")
     try:
         with make_pool(options.jobs) as pool:
-            return run_scripts(options, pool)
+            return run_scripts_in_turn_returning_status(options, pool)
     except (NoDevice, Fault, OSError, tomllib.TOMLDecodeError) as fault:
         print(f"kernel.py: {fault}", file=sys.stderr)
         return 2

@@ -7,7 +7,13 @@ from contextlib import closing
 from dataclasses import dataclass, field
 
 from kernel.calls import Sockets
-from kernel.compare import Difference, TimeSpan, differing_fields, is_expected_packet, tolerance_of
+from kernel.compare import (
+    Difference,
+    TimeSpan,
+    differing_fields,
+    has_expected_sequence_and_syn_fin_rst,
+    tolerance_from_awaited_seconds,
+)
 from kernel.device import Device, open_device
 from kernel.script import TimedEvent, UnsupportedScript
 from kernel.settings import Tuning
@@ -70,22 +76,24 @@ class RunningScript:
     def expect_packet(self, event: TimedEvent, packet: Packet, first: float, last: float) -> None:
         """Takes the next packet of the kernel and compares it."""
         is_any = event.time.first is None
-        slack = tolerance_of(last - self.base)
+        slack = tolerance_from_awaited_seconds(last - self.base)
         limit = self.base + LONGEST_WAIT if is_any else last + slack
-        seen = self.device.take_oldest_packet(limit)
+        seen = self.device.take_oldest_packet_waiting_until(limit)
         if seen is None:
-            self.note_missing_packet(event.line, last - self.base)
+            self.end_run_noting_missing_or_late_packet(event.line, last - self.base)
             return
         self.seen.append(f"{seen.at:.6f} line {event.line}: {seen}")
         span = None if is_any else TimeSpan(first - slack, last + slack)
         for name in differing_fields(packet, seen, span, self.ignored):
             self.add_difference(event.line, name, f"at {seen.at:.3f}: {seen}")
-        self.ended = not is_expected_packet(packet, seen)
+        self.ended = not has_expected_sequence_and_syn_fin_rst(packet, seen)
         self.base = seen.at
 
-    def note_missing_packet(self, line: int, awaited: float) -> None:
+    def end_run_noting_missing_or_late_packet(self, line: int, awaited: float) -> None:
         """Notes that no packet came in time, and which one came later."""
-        seen: SeenPacket | None = self.device.take_oldest_packet(self.device.now() + max(1.0, 2 * awaited))
+        seen: SeenPacket | None = self.device.take_oldest_packet_waiting_until(
+            self.device.now() + max(1.0, 2 * awaited)
+        )
         words = f"at {seen.at:.3f}: {seen}" if seen else "nothing came"
         self.add_difference(line, "missing", words)
         self.ended = True

@@ -37,7 +37,7 @@ class TimedEvent:
     def span_in_seconds(self, base: float) -> tuple[float, float]:
         """The first and the last moment of an event in seconds, where relative times count from a base.
 
-        >>> read_script("+.5~+1 > . 1:1(0)")[0].span_in_seconds(2.0)
+        >>> parse_script_into_runnable_events("+.5~+1 > . 1:1(0)")[0].span_in_seconds(2.0)
         (2.5, 3.0)
         """
         origin = base if self.time.is_relative else 0.0
@@ -51,10 +51,10 @@ def to_seconds(microseconds: int) -> float:
     return whole + part / SECOND
 
 
-def read_script(text: str) -> tuple[TimedEvent, ...]:
+def parse_script_into_runnable_events(text: str) -> tuple[TimedEvent, ...]:
     """The events of a text that can be run here.
 
-    >>> read_script("0 listen(3, 1) = -1 EINVAL")[0].action
+    >>> parse_script_into_runnable_events("0 listen(3, 1) = -1 EINVAL")[0].action
     Call(name='listen', arguments=('3', '1'), result=-1, error='EINVAL')
     """
     reading = parse_items_until_syntax_error(text)

@@ -69,7 +69,7 @@ def settings_of(path: Path, text: str, option: str = "") -> KernelSettings:
     own = {key: value for _, key, value in set_comments_in(text)}
     refuse_old_names(Claim(f"{path}:{line}", "", key, value) for line, key, value in set_comments_in(text))
     from_option = tomllib.loads(option)
-    refuse_old_names(claims_of_table(TomlPlaces(OPTION, {}), from_option))
+    refuse_old_names(settings_and_places_of_table(TomlPlaces(OPTION, {}), from_option))
     return with_table_settings(with_table_settings(settings, own), from_option)
 
 
@@ -79,7 +79,7 @@ def refuse_old_names(claims: Iterable[Claim]) -> None:
         raise Fault(line)
 
 
-def claims_of_table(places: TomlPlaces, table: Mapping[str, Any], name: str = "") -> Iterator[Claim]:
+def settings_and_places_of_table(places: TomlPlaces, table: Mapping[str, Any], name: str = "") -> Iterator[Claim]:
     """The keys of a table with their places."""
     return (Claim(places.file_and_line_of_key(name, key), name, key, value) for key, value in table.items())
 
@@ -114,16 +114,16 @@ def settings_tables_for(path: Path) -> Iterator[dict[str, Any]]:
         text = file.read_text()
         whole, places = tomllib.loads(text), find_toml_places(str(file), text)
         if folder == path.parent and isinstance(whole.get(path.name), dict):
-            refuse_old_names(claims_of_table(places, whole[path.name], path.name))
+            refuse_old_names(settings_and_places_of_table(places, whole[path.name], path.name))
             yield whole[path.name]
         beside = {key: value for key, value in whole.items() if not isinstance(value, dict)}
-        refuse_old_names(claims_of_table(places, beside))
+        refuse_old_names(settings_and_places_of_table(places, beside))
         yield beside
         if whole.get("root") is True:
             return
 
 
-def segment_size(events: tuple[TimedEvent, ...], settings: KernelSettings) -> int:
+def lesser_mss_of_syn_and_settings(events: tuple[TimedEvent, ...], settings: KernelSettings) -> int:
     """The longest segment of a connection: the lesser of both sides' MSS."""
     for event in events:
         if isinstance(event.action, Packet) and "S" in event.action.flags and event.action.is_inbound:
@@ -156,7 +156,7 @@ def sysctl_file(name: str) -> Path:
 
 def tuning_of(events: tuple[TimedEvent, ...], settings: KernelSettings, switches: Mapping[str, str]) -> Tuning:
     """The namespace for a script under settings, with further sysctls before all; what the kernel lacks is left out."""
-    size = segment_size(events, settings)
+    size = lesser_mss_of_syn_and_settings(events, settings)
     sysctls = {
         "net.ipv4.tcp_congestion_control": "reno",
         "net.ipv4.tcp_timestamps": "0",
