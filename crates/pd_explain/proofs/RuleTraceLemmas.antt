@@ -10,7 +10,9 @@ use Rattle.pd_seg.specs.declared.send_rule.SendRule.{SendRule}
 use Rattle.pd_run.specs.Step.{RunStateView, on_step, step}
 use Rattle.pd_run.specs.declared.verdict.Verdict.{Verdict}
 use Rattle.pd_explain.specs.Inner.{names_of, unmatched_rules_from}
-use Rattle.pd_explain.specs.RuleTrace.{each_once, is_named, rule_line, rule_lines_from, rules_of_event, with_name}
+use Rattle.pd_explain.specs.RuleNames.{as_list, each_once, is_named, with_name}
+use Rattle.pd_explain.specs.RuleSegments.{segment_name, segment_names}
+use Rattle.pd_explain.specs.RuleTrace.{rule_line, rule_lines_from, rules_of_event}
 use Rattle.pd_explain.specs.SendRules.{send_rule_name}
 
 -- a name is among those that are lent where it is among their values

@@ -17,7 +17,9 @@ use Rattle.pd_run.specs.declared.stepper.StepEnd.TheVariants.{Go, Stop}
 use Rattle.pd_seg.specs.declared.segments.Sent.{Sent}
 use Rattle.pd_seg.specs.declared.send_rule.SendRule.{SendRule}
 use Rattle.pd_cause.specs.Dropped.{deciding_check}
-use Rattle.pd_explain.specs.RuleTrace.{each_once, phases, rule_line, rule_of_oldest_or_next, rules_of_event}
+use Rattle.pd_explain.specs.RuleNames.{each_once}
+use Rattle.pd_explain.specs.RulePhases.{phases}
+use Rattle.pd_explain.specs.RuleTrace.{numbers_in, rule_line, rule_of_oldest_or_next, rules_of_event}
 use Rattle.pd_explain.specs.declared.rule_trace.BeforeEvent.{BeforeEvent}
 
 -- the names behind references
@@ -34,6 +36,7 @@ pub record IsBefore (r : RunStateView) (e : Event) (before : BeforeEvent) : Type
   pub unmatched_is : before.unmatched ≡ length (unmatched r)
   pub check : before.check ≡ deciding_check r e
   pub phases_are : names_of before.phases.items ≡ phases r.host.state
+  pub numbers_are : before.numbers ≡ numbers_in r.host.state
 
 -- an event that passes gets its line, another one none
 abbrev pub NotesRules : List ℕ → RunStateView → Event → RunStateView → StepEnd → List ℕ → List ℕ → Type 0

@@ -1,23 +1,37 @@
-//! The rules of the sender that the events of a script come to, as lines: rules of sending, checks, and phases that it enters.
-ghost use Rattle.std.specs.Prelude.{◌≡◌, ◌++◌, ◌-◌, ◌<◌, ◌≤◌, ◌^◌, ◌+◌, [], flat_map, fold, codes, is_none, length, map, None, Ok, IfOk, OnOk};
+//! The rules of the sender that the events of a script come to, as lines: rules of sending, checks, phases that the sender
+//! enters, and what an event does to it.
+ghost use Rattle.std.specs.Prelude.{◌≡◌, ◌==◌, ◌++◌, ◌-◌, ◌<◌, ◌≤◌, ◌^◌, ◌+◌, [], flat_map, fold, codes, is_none, length, map, None, Ok, IfOk, OnOk};
 ghost use Rattle.pd_host.specs.Host.{IsShort};
 ghost use Rattle.pd_run.specs.Laws.{unmatched};
 ghost use Rattle.pd_run.specs.Run.{start_of};
 ghost use Rattle.pd_run.specs.Step.{RunStateView, step, IsStepEnd};
 ghost use Rattle.pd_explain.specs.Inner.{names_of, IsBefore, NotesRules};
-ghost use Rattle.pd_explain.specs.RuleTrace.{as_list, check_name, each_once, entered, phases, rule_line, rule_lines, rule_lines_from, rule_of_oldest_or_next, rules_of_event, send_rules_of, with_name};
+ghost use Rattle.pd_explain.specs.RuleNames.{as_list, each_once, entered, with_name};
+ghost use Rattle.pd_explain.specs.RulePhases.{check_name, phases};
+ghost use Rattle.pd_explain.specs.RuleTrace.{effect_names, numbers_in, rule_line, rule_lines, rule_lines_from, rule_of_oldest_or_next, rules_of_event, send_rules_of, sending_names, smss_in};
 ghost use Rattle.pd_explain.specs.SendRules.{send_rule_name};
 
+mod acks;
+mod calls;
+mod effects;
 mod names;
+mod numbers;
+mod options;
 mod phases;
+mod segments;
 mod sends;
+mod timer;
 
-use self::names::{put_entered, put_name_unless_there};
+use self::calls::blocker_name;
+use self::effects::put_effect_names;
+use self::names::{put_entered, put_name_if_some, put_name_unless_there};
+use self::numbers::Numbers;
 use self::phases::{check_name, phases};
+use self::segments::put_segment_names_from;
 use self::sends::{put_send_rule_if_some, put_send_rules_from, rule_of_oldest_or_next};
 use crate::render::{put_number, put_words};
 use pd_cause::deciding_check;
-use pd_host::SegmentCheck;
+use pd_host::{ConnectionSnapshot, SegmentCheck};
 use pd_run::{Plain, RunState, StepEnd, Stepper, law_clock_base_and_queue_bounded_per_event};
 use pd_script::{Action, Event, Parsed, parse};
 use pd_seg::SendRule;
@@ -84,6 +98,8 @@ struct BeforeEvent {
     check: Option<SegmentCheck>,
     /// The phases.
     phases: Vec<&'static str>,
+    /// Its numbers.
+    numbers: Numbers,
 }
 
 /// One event of a run: where it passes and comes to some rules, its line is added.
@@ -126,6 +142,7 @@ fn before_event(alloc: Global, run: &RunState, event: &Event) -> Result<BeforeEv
         unmatched: run.host().outbox().len(),
         check: deciding_check(run, event)?,
         phases: phases(alloc, run.host())?,
+        numbers: Numbers::of_host(run.host()),
     })
 }
 
@@ -143,7 +160,60 @@ fn rules_of_event(
     put_check_if_some(&mut names, before.check)?;
     let after = phases(alloc, run.host())?;
     put_entered(&mut names, before.phases.as_slice(), after.as_slice())?;
+    put_effects(&mut names, before, run, &event.action)?;
+    put_sending_names(&mut names, before, run, &event.action)?;
     Ok(names)
+}
+
+/// Adds what an event did to the sender.
+fn put_effects(
+    names: &mut Vec<&'static str>,
+    before: &BeforeEvent,
+    run: &RunState,
+    action: &Action,
+) -> Result<(), AllocError>
+    ensures { OnOk result (names_of names.new.items ≡ fold with_name (names_of names.old.items) (effect_names run.now.host.state.settings before.now.check (before.now.unmatched == 0) before.now.numbers (numbers_in run.now.host.state) action.now)) }
+{
+    let numbers = Numbers::of_host(run.host());
+    let is_waiting = before.unmatched == 0;
+    put_effect_names(
+        names,
+        run.host().settings(),
+        before.check,
+        is_waiting,
+        &before.numbers,
+        &numbers,
+        action,
+    )
+}
+
+/// SMSS in octets, once a connection was begun.
+fn smss_in(snapshot: Option<ConnectionSnapshot>) -> u16
+    ensures { result ≡ smss_in snapshot }
+{
+    match snapshot {
+        None => 0,
+        Some(connection) => connection.smss,
+    }
+}
+
+/// Adds the names of the segments that an input put out, and why it put no more out.
+fn put_sending_names(
+    names: &mut Vec<&'static str>,
+    before: &BeforeEvent,
+    run: &RunState,
+    action: &Action,
+) -> Result<(), AllocError>
+    ensures { (r : RunStateView) → before.now.unmatched ≡ length (unmatched r) → OnOk result (names_of names.new.items ≡ fold with_name (names_of names.old.items) (sending_names r run.now action.now)) }
+{
+    match action {
+        Action::Outbound(_) => Ok(()),
+        Action::Inbound(_) | Action::Call(_) | Action::Command | Action::Code => {
+            let smss = smss_in(run.host().connection_snapshot());
+            put_segment_names_from(names, smss, run.host().outbox(), before.unmatched)?;
+            put_name_if_some(names, blocker_name(run.host().send_blocker()?))
+        }
+    }
 }
 
 /// Adds the rules by which the packets of an event left.

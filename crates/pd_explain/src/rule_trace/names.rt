@@ -1,8 +1,8 @@
 //! Lists of names of rules, in which each stands once.
-ghost use Rattle.std.specs.Prelude.{◌≡◌, ◌++◌, bytes_eq, fold, OnOk};
+ghost use Rattle.std.specs.Prelude.{◌≡◌, ◌++◌, bytes_eq, fold, option_map, OnOk};
 ghost use Rattle.std.specs.List.{list_any};
 ghost use Rattle.pd_explain.specs.Inner.{names_of};
-ghost use Rattle.pd_explain.specs.RuleTrace.{entered, is_named, with_name};
+ghost use Rattle.pd_explain.specs.RuleNames.{as_list, entered, is_named, with_name};
 
 use std::alloc::AllocError;
 
@@ -21,6 +21,22 @@ pub fn put_name_unless_there(
     }
     names.push(name)?;
     Ok(())
+}
+
+/// Adds a name if there is one, unless it is there.
+///
+/// # Errors
+/// `AllocError` where a growth is refused.
+pub fn put_name_if_some(
+    names: &mut Vec<&'static str>,
+    name: Option<&'static str>,
+) -> Result<(), AllocError>
+    ensures { OnOk result (names_of names.new.items ≡ fold with_name (names_of names.old.items) (as_list (option_map (λ each. each.now) name.entry))) }
+{
+    match name {
+        None => Ok(()),
+        Some(name) => put_name_unless_there(names, name),
+    }
 }
 
 /// Adds those of the phases of a sender that it has entered since it had others.

@@ -1,7 +1,7 @@
 //! Phases, which are rules that go on: the state of a connection, its loss recovery, and its windows; and the names of checks.
 ghost use Rattle.std.specs.Prelude.{◌≡◌, ◌++◌, IfOk, OnOk};
 ghost use Rattle.pd_explain.specs.Inner.{names_of};
-ghost use Rattle.pd_explain.specs.RuleTrace.{check_name, growth_name, phases, phases_of_snapshot, phases_of_windows, recovery_name, state_rule_name, window_name};
+ghost use Rattle.pd_explain.specs.RulePhases.{check_name, growth_name, phases, phases_of_snapshot, phases_of_windows, recovery_name, state_rule_name, window_name};
 
 use pd_host::{ConnState, ConnectionSnapshot, Host, Recovery, SegmentCheck, WindowSnapshot};
 use std::alloc::{AllocError, Global};

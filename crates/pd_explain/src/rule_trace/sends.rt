@@ -3,7 +3,8 @@ ghost use Rattle.std.specs.Prelude.{◌≡◌, ◌==◌, fold, length, map, drop
 ghost use Rattle.pd_host.specs.Expiries.{expiry_rule};
 ghost use Rattle.pd_run.specs.Laws.{unmatched};
 ghost use Rattle.pd_explain.specs.Inner.{names_of, unmatched_rules_from};
-ghost use Rattle.pd_explain.specs.RuleTrace.{as_list, rule_of_oldest_or_next, with_name};
+ghost use Rattle.pd_explain.specs.RuleNames.{as_list, with_name};
+ghost use Rattle.pd_explain.specs.RuleTrace.{rule_of_oldest_or_next};
 ghost use Rattle.pd_explain.specs.SendRules.{send_rule_name};
 
 use super::names::put_name_unless_there;

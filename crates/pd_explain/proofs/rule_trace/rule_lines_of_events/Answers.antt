@@ -8,7 +8,8 @@ use Rattle.pd_run.specs.Laws.{IsUnderway}
 use Rattle.pd_run.specs.Step.{RunStateView, step, IsStepEnd}
 use Rattle.pd_run.specs.declared.stepper.StepEnd.{StepEnd}
 use Rattle.pd_explain.specs.Inner.{NotesRules}
-use Rattle.pd_explain.specs.RuleTrace.{each_once, rule_line, rule_lines_from, rules_of_event}
+use Rattle.pd_explain.specs.RuleNames.{each_once}
+use Rattle.pd_explain.specs.RuleTrace.{rule_line, rule_lines_from, rules_of_event}
 use Rattle.pd_explain.proofs.RuleTraceLemmas.{lines_after, none_after}
 use Rattle.pd_cause.proofs.TracedLemmas.{left_from}
 use Rattle.pd_explain.proofs.rule_trace.rule_lines_of_events.Goals as goal

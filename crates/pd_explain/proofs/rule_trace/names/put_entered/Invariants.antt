@@ -1,7 +1,7 @@
 -- The names so far.
 use Rattle.std.proofs.Common.{◌≡◌, fold, take}
 use Rattle.pd_explain.specs.Inner.{names_of}
-use Rattle.pd_explain.specs.RuleTrace.{entered, with_name}
+use Rattle.pd_explain.specs.RuleNames.{entered, with_name}
 use Rattle.pd_explain.proofs.rule_trace.names.put_entered.Given as goal
 
 abbrev pub invariant-loop-name : goal.invariant-loop-name

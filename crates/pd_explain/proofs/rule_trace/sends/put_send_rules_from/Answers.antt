@@ -1,7 +1,7 @@
 -- The rule of one packet more.
 use Rattle.std.proofs.Common.{List, ℕ, ap, sym, ◌∙◌, arith}
 use Rattle.pd_explain.specs.Inner.{names_of}
-use Rattle.pd_explain.specs.RuleTrace.{with_name}
+use Rattle.pd_explain.specs.RuleNames.{with_name}
 use Rattle.pd_explain.proofs.RuleTraceLemmas.{rule_noted}
 use Rattle.pd_explain.proofs.rule_trace.sends.put_send_rules_from.Goals as goal
 

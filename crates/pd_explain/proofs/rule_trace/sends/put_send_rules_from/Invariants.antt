@@ -1,7 +1,7 @@
 -- The names of the rules so far.
 use Rattle.std.proofs.Common.{◌≡◌, ◌≤◌, ◌-◌, fold, map, take}
 use Rattle.pd_explain.specs.Inner.{names_of, unmatched_rules_from}
-use Rattle.pd_explain.specs.RuleTrace.{with_name}
+use Rattle.pd_explain.specs.RuleNames.{with_name}
 use Rattle.pd_explain.specs.SendRules.{send_rule_name}
 use Rattle.pd_explain.proofs.rule_trace.sends.put_send_rules_from.Given as goal
 
