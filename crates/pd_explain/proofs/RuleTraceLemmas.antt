@@ -1,6 +1,7 @@
 -- The lines on the rules that events come to, event by event, and names that stand once.
-use Rattle.std.proofs.Common.{◌≡◌, ℕ, zero, suc, ◌+◌, ◌-◌, ◌<◌, ◌≤◌, ◌||◌, Bool, List, [], ◌∷◌, ◌++◌, length, map, drop, take, fold, slice_get, bytes_eq, Bor, Option, Some, option_map, Ok, Err, refl, sym, ap, ◌∙◌, arith}
+use Rattle.std.proofs.Common.{◌≡◌, ℕ, zero, suc, ◌+◌, ◌-◌, ◌<◌, ◌≤◌, ◌||◌, Bool, List, [], ◌∷◌, ◌++◌, length, map, drop, take, fold, slice_get, bytes_eq, Bor, Option, Some, option_map, Ok, Err, refl, sym, ap, ◌∙◌, append-nil, arith}
 use Rattle.std.specs.List.{list_any}
+use Rattle.std.proofs.lemmas.Grind.{flat_map-append}
 use Rattle.std.proofs.lemmas.List.{take_more, map-append}
 use Rattle.std.proofs.lemmas.List.Sums.{fold-append}
 use Rattle.std.proofs.lemmas.Option.{slice_get_within, slice_get_past, slice_get-map, get_or_from_slice_get}
@@ -49,6 +50,29 @@ rule_noted from place packets sent old before new le there h e =
     ∙ (ap (λ (l : List (List ℕ)). fold with_name old l) (map-append send_rule_name (take n rules) (sent.rule ∷ []))
     ∙ fold-append with_name old (map send_rule_name (take n rules)) (send_rule_name sent.rule ∷ []))) in
     e ∙ (ap (λ (b : List (List ℕ)). with_name b (send_rule_name sent.rule)) h ∙ sym all)
+
+-- the name of the segment of one packet more, if it has one
+pub segment_noted : (smss from place : ℕ) (packets : List Sent) (sent : Sent) (old before new : List (List ℕ)) → from ≤ place → slice_get packets place ≡ Some sent
+    → before ≡ fold with_name old (segment_names smss (take (place - from) (drop from packets)))
+    → new ≡ fold with_name before (as_list (segment_name smss sent.segment))
+    → new ≡ fold with_name old (segment_names smss (take (place + 1 - from) (drop from packets)))
+segment_noted smss from place packets sent old before new le there h e =
+    let n : ℕ = place - from in
+    let put : List Sent = drop from packets in
+    let next : place + 1 - from ≡ n + 1 = omega (arith, le) in
+    let here : from + n ≡ place = omega (arith, le) in
+    let at : slice_get put n ≡ Some sent = slice_get_drop from n packets ∙ (ap (λ (k : ℕ). slice_get packets k) here ∙ there) in
+    let within : n < length put = slice_get_within put n sent at in
+    let more : take (n + 1) put ≡ take n put ++ sent ∷ [] =
+    take_more put n sent within ∙ ap (λ (y : Sent). take n put ++ y ∷ []) (get_or_from_slice_get put n sent sent at) in
+    let names : List (List ℕ) = as_list (segment_name smss sent.segment) in
+    let all : fold with_name old (segment_names smss (take (place + 1 - from) put)) ≡ fold with_name (fold with_name old (segment_names smss (take n put))) names =
+    ap (λ (k : ℕ). fold with_name old (segment_names smss (take k put))) next
+    ∙ (ap (λ (l : List Sent). fold with_name old (segment_names smss l)) more
+    ∙ (ap (λ (l : List (List ℕ)). fold with_name old l) (flat_map-append (λ (s : Sent). as_list (segment_name smss s.segment)) (take n put) (sent ∷ []))
+    ∙ (fold-append with_name old (segment_names smss (take n put)) (names ++ [])
+    ∙ ap (λ (l : List (List ℕ)). fold with_name (fold with_name old (segment_names smss (take n put))) l) (append-nil names)))) in
+    e ∙ (ap (λ (b : List (List ℕ)). fold with_name b names) h ∙ sym all)
 
 -- the line of an event that passes, and those of the others
 pub lines_after : (of : List ℕ) (es rest : List Event) (r s : RunStateView) (e : Event) → es ≡ e ∷ rest → step r e ≡ Ok s

@@ -23,9 +23,12 @@ error_name (Some Epipe) = codes "own.call.epipe"
 error_name _ = codes "own.call.error"
 
 -- a `write` that queues all octets, a part of them, or none since it names none
-abbrev pub written_name : List Argument → ℕ → List ℕ
-written_name (fd ∷ buffer ∷ Int octets ∷ []) queued =
+abbrev pub queued_name : ℕ → ℕ → List ℕ
+queued_name octets queued =
     if queued == 0 then codes "own.call.write-nothing" else (if nat_lt queued octets then codes "own.call.write-part" else codes "own.call.write")
+
+abbrev pub written_name : List Argument → ℕ → List ℕ
+written_name (fd ∷ buffer ∷ Int octets ∷ []) queued = queued_name octets queued
 written_name _ queued = codes "own.call.write"
 
 -- `close` of the connection, or of the listening descriptor

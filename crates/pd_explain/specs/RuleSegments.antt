@@ -108,19 +108,24 @@ abbrev pub has_counted_block : ℕ → ℕ → PacketOption → Bool
 has_counted_block una top (Sack blocks) = list_any (is_counted una top) blocks
 has_counted_block una top _ = false
 
--- a name where something holds
-abbrev pub name_if : Bool → List ℕ → Option (List ℕ)
-name_if true name = Some name
-name_if false name = None
+-- the options have such a block
+abbrev pub empty_block_name : List PacketOption → Option (List ℕ)
+empty_block_name options = if list_any has_empty_block options then Some (codes "rfc2018.block.empty") else None
+
+abbrev pub above_top_name : ℕ → List PacketOption → Option (List ℕ)
+above_top_name top options = if list_any (has_block_above_top top) options then Some (codes "rfc2018.block.above-top") else None
+
+abbrev pub below_una_name : ℕ → List PacketOption → Option (List ℕ)
+below_una_name una options = if list_any (has_block_below_una una) options then Some (codes "rfc2883.block.below-una") else None
+
+abbrev pub counted_block_name : ℕ → ℕ → List PacketOption → Option (List ℕ)
+counted_block_name una top options = if list_any (has_counted_block una top) options then Some (codes "rfc2018.block.counted") else None
 
 -- all names of blocks; none where the end of the list is among the options
 abbrev pub names_of_blocks : ℕ → ℕ → List PacketOption → List (List ℕ)
 names_of_blocks una top options =
     if list_any is_eol options then []
-    else present (name_if (list_any has_empty_block options) (codes "rfc2018.block.empty")
-    ∷ name_if (list_any (has_block_above_top top) options) (codes "rfc2018.block.above-top")
-    ∷ name_if (list_any (has_block_below_una una) options) (codes "rfc2883.block.below-una")
-    ∷ name_if (list_any (has_counted_block una top) options) (codes "rfc2018.block.counted") ∷ [])
+    else present (empty_block_name options ∷ above_top_name top options ∷ below_una_name una options ∷ counted_block_name una top options ∷ [])
 
 abbrev pub block_names : ℕ → ℕ → Options → List (List ℕ)
 block_names una top (Listed options) = names_of_blocks una top options

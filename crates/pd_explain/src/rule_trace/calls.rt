@@ -1,6 +1,6 @@
 //! The rules of calls that an event comes to, and why the sender sends no more after an input.
 ghost use Rattle.std.specs.Prelude.{◌≡◌, option_map};
-ghost use Rattle.pd_explain.specs.RuleCalls.{answered_name, blocker_name, call_name, closed_name, done_name, error_name, nodelay_name, option_name, written_name};
+ghost use Rattle.pd_explain.specs.RuleCalls.{answered_name, blocker_name, call_name, closed_name, done_name, error_name, nodelay_name, option_name, queued_name, written_name};
 
 use pd_host::SendBlocker;
 use pd_script::{Argument, Call, Constant, ErrorName, ExpectedResult, Function};
@@ -17,19 +17,23 @@ fn error_name(error: Option<ErrorName>) -> &'static str
     }
 }
 
+fn queued_name(octets: u64, queued: u32) -> &'static str
+    ensures { result.now ≡ queued_name octets queued }
+{
+    if queued == 0 {
+        "own.call.write-nothing"
+    } else if u64::from(queued) < octets {
+        "own.call.write-part"
+    } else {
+        "own.call.write"
+    }
+}
+
 fn written_name(arguments: &[Argument], queued: u32) -> &'static str
     ensures { result.now ≡ written_name arguments.now queued }
 {
     match arguments {
-        [_, _, Argument::Int(octets)] => {
-            if queued == 0 {
-                "own.call.write-nothing"
-            } else if u64::from(queued) < *octets {
-                "own.call.write-part"
-            } else {
-                "own.call.write"
-            }
-        }
+        [_, _, Argument::Int(octets)] => queued_name(*octets, queued),
         _ => "own.call.write",
     }
 }

@@ -3,7 +3,7 @@ ghost use Rattle.std.specs.Prelude.{◌≡◌, fold, option_map, OnOk};
 ghost use Rattle.std.specs.List.{list_any};
 ghost use Rattle.pd_explain.specs.Inner.{names_of};
 ghost use Rattle.pd_explain.specs.RuleNames.{with_name};
-ghost use Rattle.pd_explain.specs.RuleSegments.{block_names, has_block_above_top, has_block_below_una, has_counted_block, has_empty_block, initial_window_name, initial_window_name_by, is_above_top, is_below_una, is_counted, is_empty_block, is_eol, is_large_wscale, is_mss, is_sack_ok, is_wscale, name_if, names_of_blocks, names_of_listed, sack_name, scaling_name, smss_name, syn_names};
+ghost use Rattle.pd_explain.specs.RuleSegments.{above_top_name, below_una_name, block_names, counted_block_name, empty_block_name, has_block_above_top, has_block_below_una, has_counted_block, has_empty_block, initial_window_name, initial_window_name_by, is_above_top, is_below_una, is_counted, is_empty_block, is_eol, is_large_wscale, is_mss, is_sack_ok, is_wscale, names_of_blocks, names_of_listed, sack_name, scaling_name, smss_name, syn_names};
 
 use super::names::{put_name_if_some, put_name_unless_there};
 use pd_script::{Options, PacketOption, SackBlock};
@@ -287,10 +287,44 @@ fn have_counted_block(una: u32, top: u32, options: &[PacketOption]) -> bool
         .any(|option| has_counted_block(una, top, option))
 }
 
-fn name_if(holds: bool, name: &'static str) -> Option<&'static str>
-    ensures { option_map (λ each. each.now) result ≡ name_if holds name.now }
+fn empty_block_name(options: &[PacketOption]) -> Option<&'static str>
+    ensures { option_map (λ name. name.now) result ≡ empty_block_name options.now }
 {
-    if holds { Some(name) } else { None }
+    if have_empty_block(options) {
+        Some("rfc2018.block.empty")
+    } else {
+        None
+    }
+}
+
+fn above_top_name(top: u32, options: &[PacketOption]) -> Option<&'static str>
+    ensures { option_map (λ name. name.now) result ≡ above_top_name top options.now }
+{
+    if have_block_above_top(top, options) {
+        Some("rfc2018.block.above-top")
+    } else {
+        None
+    }
+}
+
+fn below_una_name(una: u32, options: &[PacketOption]) -> Option<&'static str>
+    ensures { option_map (λ name. name.now) result ≡ below_una_name una options.now }
+{
+    if have_block_below_una(una, options) {
+        Some("rfc2883.block.below-una")
+    } else {
+        None
+    }
+}
+
+fn counted_block_name(una: u32, top: u32, options: &[PacketOption]) -> Option<&'static str>
+    ensures { option_map (λ name. name.now) result ≡ counted_block_name una top options.now }
+{
+    if have_counted_block(una, top, options) {
+        Some("rfc2018.block.counted")
+    } else {
+        None
+    }
 }
 
 fn put_names_of_blocks(
@@ -304,23 +338,10 @@ fn put_names_of_blocks(
     if has_eol(options) {
         return Ok(());
     }
-    let empty = name_if(have_empty_block(options), "rfc2018.block.empty");
-    put_name_if_some(names, empty)?;
-    let above = name_if(
-        have_block_above_top(top, options),
-        "rfc2018.block.above-top",
-    );
-    put_name_if_some(names, above)?;
-    let below = name_if(
-        have_block_below_una(una, options),
-        "rfc2883.block.below-una",
-    );
-    put_name_if_some(names, below)?;
-    let counted = name_if(
-        have_counted_block(una, top, options),
-        "rfc2018.block.counted",
-    );
-    put_name_if_some(names, counted)
+    put_name_if_some(names, empty_block_name(options))?;
+    put_name_if_some(names, above_top_name(top, options))?;
+    put_name_if_some(names, below_una_name(una, options))?;
+    put_name_if_some(names, counted_block_name(una, top, options))
 }
 
 /// Adds what the blocks of SACK among options come to, with SND.UNA and the number after all that was sent.
