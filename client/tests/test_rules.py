@@ -26,26 +26,31 @@ from tests.test_pdsuite import on_terminal
 
 SPECS = TOP / "crates/pd_explain/specs"
 SUITE = TOP / "examples/suite"
-# An event that is so decided doesn't pass, so no script comes to it.
-NEVER = {"own.check.not-run"}
+# No script comes to them, as docs/RULES.md says: an event that is so decided doesn't pass, and an ACK that delivers nothing
+# leaves what was delivered before.
+NEVER = {"own.check.not-run", "rfc9937.nothing-delivered"}
 _NAME = re.compile(r'codes "((?:rfc\d+|own)\.[a-z0-9.-]+)"')
 _TEXT = re.compile(r'^send_rule_(words|name) (\w+) = codes "(.+)"$', re.MULTILINE)
 _ROW = re.compile(r"^\| `([a-z0-9.-]+)` \| (.+) \|$", re.MULTILINE)
+_SHOWN = re.compile(r"`((?:rfc\d+|own)\.[a-z0-9.-]+)`")
 ACK, RST, EXPIRY = "rfc9293.ack", "rfc9293.rst", "rfc6298.expiry"
 WORDS = {it.name: it.words for it in load_sender_rules()}
 
 
 def definitions_of_names() -> str:
     """The definitions that give the rules their names, where the crates are there."""
-    paths = [SPECS / f"{it}.antt" for it in ("SendRules", "RuleTrace")]
+    paths = [SPECS / "SendRules.antt", *sorted(SPECS.glob("Rule*.antt"))]
     if not all(it.is_file() for it in paths):
         pytest.skip("the definitions of rules aren't there")
     return "".join(it.read_text() for it in paths)
 
 
 def test_the_list_has_the_names_of_the_program() -> None:
-    names = set(_NAME.findall(definitions_of_names()))
-    assert NEVER < names and names - NEVER == set(WORDS)
+    assert set(_NAME.findall(definitions_of_names())) == set(WORDS)
+
+
+def test_the_document_of_the_sender_has_each_name_once() -> None:
+    assert sorted(_SHOWN.findall((TOP / "docs/SENDER.md").read_text())) == sorted(WORDS)
 
 
 def test_a_rule_by_which_packets_leave_has_the_words_of_the_program() -> None:
@@ -58,10 +63,10 @@ def test_the_page_has_the_names_and_words_of_the_list() -> None:
     assert _ROW.findall((TOP / "docs/RULES.md").read_text()) == list(WORDS.items())
 
 
-def test_each_rule_has_words_with_its_rfc() -> None:
+def test_each_rule_has_words_with_its_rfc_or_is_own() -> None:
     for name, words in WORDS.items():
         number = name.removeprefix("rfc").partition(".")[0]
-        assert f" (RFC {number}" in words, name
+        assert words.endswith(" (own)") if number == "own" else f" (RFC {number}" in words, name
 
 
 REFUSED = [
@@ -72,7 +77,6 @@ REFUSED = [
         "next-seg.",
         f"; the nearest are {', '.join(f'rfc6675.next-seg.{it}' for it in ('lost', 'new', 'hole', 'rescue'))}",
     ),
-    ("own.check.not-run", ""),
     ("zz", ""),
     ("", ""),
 ]

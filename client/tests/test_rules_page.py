@@ -11,14 +11,13 @@ from pdsuite.rules.rule_list import SenderRule, load_sender_rules
 from tests.helpers import TOP, Call, write
 from tests.test_rules import ACK, EXPIRY, RST, events
 
-_GROUP = re.compile(r"^(.+?)(?:\. .+)?:\n\n\| rule \| words \|\n\|---\|---\|\n((?:\| .+\n)+)", re.MULTILINE)
+_GROUP = re.compile(r"^### (.+)\n\n.+\n\n\| rule \| words \|\n\|---\|---\|\n((?:\| .+\n)+)", re.MULTILINE)
 _NAME = re.compile(r"^\| `(.+?)`", re.MULTILINE)
-_LINK = re.compile(r"\[([^\]]+)\]\([^)]+\)")
 
 
 def test_the_document_has_the_groups_of_the_list() -> None:
     found = _GROUP.findall((TOP / "docs/RULES.md").read_text())
-    groups = [(name, _LINK.sub(r"\1", title)) for title, rows in found for name in _NAME.findall(rows)]
+    groups = [(name, title) for title, rows in found for name in _NAME.findall(rows)]
     assert groups == [(it.name, it.group) for it in load_sender_rules()]
 
 

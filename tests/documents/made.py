@@ -21,6 +21,7 @@ class Made:
 TABLE = "tools/settings_table.py"
 MADE = (
     Made("docs/COVERAGE.md", None, None, ("tools/coverage.py",)),
+    Made("docs/RULES.md", "<!-- made by tools/rules_table.py -->", "<!-- end -->", ("tools/rules_table.py",)),
     Made("docs/SETTINGS.md", f"<!-- made by {TABLE} page -->", "<!-- end -->", (TABLE, "page")),
     Made("client/pdsuite/scripts/defaults.py", f"# made by {TABLE} client", "# end", (TABLE, "client")),
     Made("packaging/man/pdregress.h2m", f'.\\" made by {TABLE} man', '.\\" end', (TABLE, "man")),
