@@ -93,8 +93,8 @@ def test_rules_follow_what_a_hover_says_without_them(recording_programs: Path, w
         (folder / "old").unlink()
         rules = [after.removeprefix(before) for before, after in zip(without, hovers(PASSES + "// more\n"))]
         assert calls.read_text() == "\n" * 2
-        assert [it.count("\n- `") for it in rules] == [0, 0, 1, 2, 1, 5, 0, 1, 1]
-        assert rules[7] == f"\n\nRules of the sender at line 8:\n{NEW_DATA_ITEM}"
+        assert [it.count("\n- `") for it in rules] == [1, 1, 2, 6, 1, 11, 2, 5, 1]
+        assert rules[8] == f"\n\nRules of the sender at line 9:\n{NEW_DATA_ITEM}"
         assert [it for it in rules if it and not it.startswith("\n\nRules of the sender at line ")] == []
         # The text breaks off, and what stands before that is run.
         assert hovers(PASSES + "bad") == [before + it for before, it in zip(without, rules)]
