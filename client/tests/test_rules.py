@@ -26,9 +26,8 @@ from tests.test_pdsuite import on_terminal
 
 SPECS = TOP / "crates/pd_explain/specs"
 SUITE = TOP / "examples/suite"
-# No script comes to them, as docs/RULES.md says: an event that is so decided doesn't pass, and an ACK that delivers nothing
-# leaves what was delivered before.
-NEVER = {"own.check.not-run", "rfc9937.nothing-delivered"}
+# No script comes to it, as docs/RULES.md says: an event that is so decided doesn't pass.
+NEVER = {"own.check.not-run"}
 _NAME = re.compile(r'codes "((?:rfc\d+|own)\.[a-z0-9.-]+)"')
 _TEXT = re.compile(r'^send_rule_(words|name) (\w+) = codes "(.+)"$', re.MULTILINE)
 _ROW = re.compile(r"^\| `([a-z0-9.-]+)` \| (.+) \|$", re.MULTILINE)

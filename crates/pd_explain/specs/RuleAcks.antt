@@ -133,23 +133,27 @@ recovery_step_name _ _ b a v w = None
 
 -- PRR (RFC 9937, section 6)
 
--- an ACK in recovery: cwnd above ssthresh follows the part that was delivered; else it grows up to ssthresh, with a segment more
--- at a SafeACK
-abbrev pub reduction_name : PrrState → WindowSnapshot → List ℕ
-reduction_name prr w =
-    if prr.delivered_data == 0 then codes "rfc9937.nothing-delivered"
-    else (if nat_lt w.ssthresh w.cwnd then codes "rfc9937.proportional"
+-- an ACK in recovery: where it delivers nothing all stays; else cwnd above ssthresh follows the part that was delivered, or it
+-- grows up to ssthresh, with a segment more at a SafeACK
+abbrev pub reduction_name : Bool → Bool → WindowSnapshot → List ℕ
+reduction_name delivers safe_ack w =
+    if delivers then (if nat_lt w.ssthresh w.cwnd then codes "rfc9937.proportional"
     else (if w.cwnd == w.ssthresh then codes "rfc9937.up-to-ssthresh"
-    else (if prr.safe_ack then codes "rfc9937.safe-ack" else codes "rfc9937.conservative")))
+    else (if safe_ack then codes "rfc9937.safe-ack" else codes "rfc9937.conservative")))
+    else codes "rfc9937.nothing-delivered"
 
-abbrev pub prr_name : Option PrrState → WindowSnapshot → WindowSnapshot → Option (List ℕ)
-prr_name None v w = None
-prr_name (Some prr) v w =
-    if is_with_sack w.recovery then Some (reduction_name prr w)
+-- the ACK enters recovery, or adds to what is delivered
+abbrev pub is_delivering : Recovery → PrrState → PrrState → Bool
+is_delivering before prr after = if is_with_sack before then nat_lt prr.prr_delivered after.prr_delivered else true
+
+abbrev pub prr_name : Option PrrState → Option PrrState → WindowSnapshot → WindowSnapshot → Option (List ℕ)
+prr_name (Some prr) (Some after) v w =
+    if is_with_sack w.recovery then Some (reduction_name (is_delivering v.recovery prr after) after.safe_ack w)
     else (if is_with_sack v.recovery then Some (codes "rfc9937.ends") else None)
+prr_name _ _ v w = None
 
 -- All of them, with L and what the sender makes of a duplicate
 abbrev pub ack_names : ℕ → Option DupAckEffect → ConnectionSnapshot → ConnectionSnapshot → WindowSnapshot → WindowSnapshot → List (List ℕ)
 ack_names limit effect b a v w =
     present (Some (ack_name b a) ∷ next_name b a ∷ Some (right_edge_name (right_edge b v) (right_edge a w)) ∷ growth_name limit b a v w
-    ∷ restart_name a v w ∷ ssthresh_name a v w ∷ duplicate_name effect b a v w ∷ recovery_step_name v.recovery w.recovery b a v w ∷ prr_name w.prr v w ∷ [])
+    ∷ restart_name a v w ∷ ssthresh_name a v w ∷ duplicate_name effect b a v w ∷ recovery_step_name v.recovery w.recovery b a v w ∷ prr_name v.prr w.prr v w ∷ [])

@@ -1,7 +1,7 @@
 //! The rules that a segment comes to which the sender takes, by its numbers before the segment and after it.
 ghost use Rattle.std.specs.Prelude.{◌≡◌, fold, option_map, OnOk};
 ghost use Rattle.pd_explain.specs.Inner.{names_of};
-ghost use Rattle.pd_explain.specs.RuleAcks.{ack_name, ack_names, count_name, counted_name, duplicate_name, entry_name, further_name, growth_kind_name, growth_name, has_sack_evidence, is_idle, is_with_sack, most_growth, next_name, no_duplicate_name, prr_name, recovery_step_name, reduction_name, restart_name, right_edge, right_edge_name, ssthresh_name, widened_name};
+ghost use Rattle.pd_explain.specs.RuleAcks.{ack_name, ack_names, count_name, counted_name, duplicate_name, entry_name, further_name, growth_kind_name, growth_name, has_sack_evidence, is_delivering, is_idle, is_with_sack, most_growth, next_name, no_duplicate_name, prr_name, recovery_step_name, reduction_name, restart_name, right_edge, right_edge_name, ssthresh_name, widened_name};
 ghost use Rattle.pd_explain.specs.RuleNames.{with_name};
 
 use super::names::{put_name_if_some, put_name_unless_there};
@@ -34,7 +34,7 @@ pub fn put_ack_names(
     put_name_if_some(names, ssthresh_name(after, old, new))?;
     put_name_if_some(names, duplicate_name(effect, before, after, old, new))?;
     put_name_if_some(names, recovery_step_name(before, after, old, new))?;
-    put_name_if_some(names, prr_name(new.prr, old, new))
+    put_name_if_some(names, prr_name(old, new))
 }
 
 fn ack_name(before: &ConnectionSnapshot, after: &ConnectionSnapshot) -> &'static str
@@ -311,39 +311,47 @@ fn recovery_step_name(
     }
 }
 
-fn reduction_name(prr: &PrrState, new: &WindowSnapshot) -> &'static str
-    ensures { result.now ≡ reduction_name prr.now new.now }
+fn reduction_name(delivers: bool, safe_ack: bool, new: &WindowSnapshot) -> &'static str
+    ensures { result.now ≡ reduction_name delivers safe_ack new.now }
 {
-    if prr.delivered_data == 0 {
+    if !delivers {
         "rfc9937.nothing-delivered"
     } else if new.ssthresh < new.cwnd {
         "rfc9937.proportional"
     } else if new.cwnd == new.ssthresh {
         "rfc9937.up-to-ssthresh"
-    } else if prr.safe_ack {
+    } else if safe_ack {
         "rfc9937.safe-ack"
     } else {
         "rfc9937.conservative"
     }
 }
 
-fn prr_name(
-    prr: Option<PrrState>,
-    old: &WindowSnapshot,
-    new: &WindowSnapshot,
-) -> Option<&'static str>
-    ensures { option_map (λ name. name.now) result ≡ prr_name prr old.now new.now }
+/// Whether an ACK enters a recovery, or adds to what is delivered in it.
+fn is_delivering(recovery: Recovery, before: &PrrState, after: &PrrState) -> bool
+    ensures { result ≡ is_delivering recovery before.now after.now }
 {
-    match prr {
-        None => None,
-        Some(prr) => {
+    if is_with_sack(recovery) {
+        before.prr_delivered < after.prr_delivered
+    } else {
+        true
+    }
+}
+
+fn prr_name(old: &WindowSnapshot, new: &WindowSnapshot) -> Option<&'static str>
+    ensures { option_map (λ name. name.now) result ≡ prr_name old.now.prr new.now.prr old.now new.now }
+{
+    match (old.prr, new.prr) {
+        (Some(before), Some(after)) => {
             if is_with_sack(new.recovery) {
-                Some(reduction_name(&prr, new))
+                let delivers = is_delivering(old.recovery, &before, &after);
+                Some(reduction_name(delivers, after.safe_ack, new))
             } else if is_with_sack(old.recovery) {
                 Some("rfc9937.ends")
             } else {
                 None
             }
         }
+        _ => None,
     }
 }
