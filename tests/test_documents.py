@@ -5,6 +5,7 @@ from pathlib import Path
 
 import pytest
 
+import rules_table
 from documents import made, main
 from documents.pages import Page
 from documents.shown import commands_shown_in
@@ -92,3 +93,17 @@ def test_a_page_names_each_file_of_its_folder(folder: str) -> None:
     page = (TOP / folder / "README.md").read_text()
     named = set(re.findall(r"`([\w.]+)", page))
     assert [it.name for it in (TOP / folder).iterdir() if it.is_file() and it.name not in {"README.md", *named}] == []
+
+
+def test_rules_that_the_page_of_the_sender_lacks_are_refused(
+    tmp_path: Path, monkeypatch: pytest.MonkeyPatch, capsys: pytest.CaptureFixture[str]
+) -> None:
+    (tmp_path / "rules.toml").write_text('["One"]\n"own.a" = "a (own)"\n"rfc1.b" = "b (RFC 1)"\n')
+    (tmp_path / "page.md").write_text("# p\n\n## The one\n`own.a`\n\n## Two\n`rfc1.b`\n")
+    monkeypatch.setattr(rules_table, "RULES", tmp_path / "rules.toml")
+    monkeypatch.setattr(rules_table, "PAGE", tmp_path / "page.md")
+    assert rules_table.main() == 0
+    assert "SENDER.md: [The one](SENDER.md#the-one), [Two](SENDER.md#two).\n" in capsys.readouterr().out
+    (tmp_path / "page.md").write_text("# p\n\n## The one\n`own.a`\n")
+    assert rules_table.main() == 1
+    assert capsys.readouterr() == ("", "rules_table: docs/SENDER.md has no rfc1.b\n")
