@@ -22,7 +22,10 @@ from dataclasses import dataclass
 from pathlib import Path
 
 from trees import TOP, Mutant, copy_tree_with_mutant, parse_mutants_of_text
-from one_build import apply_all_mutants, build_with_all_mutants, programs_with_mutant
+from build_cache import OPTIMISED
+from build_mutants import build_with_all_mutants, programs_with_mutant
+from kit_tools import kit_or_raise_unknown_kit_error
+from mutant_bodies import apply_all_mutants
 
 sys.path.insert(0, str(TOP / "client"))
 
@@ -102,6 +105,15 @@ def copy_suite_as_before_these_mutants(place: Path) -> None:
         path.write_text(path.read_text().partition(END)[0])
 
 
+def build_all_or_exit(mutants: Sequence[Mutant], folder: Path) -> Path:
+    """The program with all mutants, built in a folder."""
+    tree, work = copy_tree_with_mutant(folder / "tree"), folder / "build"
+    for number, why in apply_all_mutants(dict(enumerate(mutants, 1)), tree).left_out.items():
+        raise SystemExit(f"{mutants[number - 1].name}: {why}")
+    work.mkdir()
+    return build_with_all_mutants(kit_or_raise_unknown_kit_error(), tree, work, OPTIMISED, lambda phase: None)
+
+
 def main() -> int:
     parser = argparse.ArgumentParser(allow_abbrev=False, description=(__doc__ or "").partition(":\n")[0])
     parser.add_argument("--inputs", type=int, default=3_780)
@@ -117,10 +129,7 @@ def main() -> int:
         copy_suite_as_before_these_mutants(base / SUITE)
         program = options.program or Path(folder, "program")
         if not program.exists():
-            tree, work = copy_tree_with_mutant(Path(folder, "tree")), Path(folder, "build")
-            apply_all_mutants(mutants, tree)
-            work.mkdir()
-            shutil.copy(build_with_all_mutants(tree, work), program)
+            shutil.copy(build_all_or_exit(mutants, Path(folder)), program)
         bench = SearchBench(base, suite_scripts_of_tree(base, stop), program, options, stop)
         found = []
         for number, mutant in enumerate(mutants, 1):

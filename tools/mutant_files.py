@@ -1,8 +1,9 @@
 """The mutants that stand in one file, of a crate or of Python and shell, and how one is applied.
 
 A mutant is a title line, `# NAME`, and the lines below it: `file: PATH`, and after that pairs of `old: TEXT` and
-`new: TEXT`, each of one line. A mutant that no proof refuses has a line `fails: TEST` before these. Empty lines part
-mutants.
+`new: TEXT`, each of one line. A mutant that no proof refuses has a line `fails: TEST` before these. One of the sender has
+a line `rule: NAME[, NAME..]` there: the rules of the sender that it breaks, as docs/RULES.md names them, or `none` where
+it breaks only what the program keeps or says of the sender. Empty lines part mutants.
 
 Mutants of a crate are in its files `contracts.mutants` and `tests.mutants`, and name a file below src/, specs/ or
 proofs/. Those of Python and shell are in the files `client/*.mutants`, `tools/*.mutants` and `tests/*.mutants`, and
@@ -21,6 +22,8 @@ CRATE_FOLDERS = ("src/", "specs/", "proofs/")
 PYTHON_FOLDERS = ("client", "tools", "tests")
 # The file of a crate whose mutants name a test each.
 TESTS_FILE = "tests.mutants"
+RULE = re.compile(r"(?:rfc\d+|own)(?:\.[a-z0-9-]+)+")
+NO_RULE = "none"
 
 
 class MutantError(Exception):
@@ -38,12 +41,16 @@ class TextChange:
 
 @dataclass
 class Mutant:
-    """A wrong change: its name, the lines below its title, the test that has to see it, if any, and its changes."""
+    """A wrong change: its name, the lines below its title, the test that has to see it, if any, and its changes.
+
+    One of the sender has the rules that it breaks, which may be none; of others they are None.
+    """
 
     name: str
     lines: list[str] = field(default_factory=list)
     test: str = ""
     changes: list[TextChange] = field(default_factory=list)
+    rules: tuple[str, ...] | None = None
 
     @property
     def kit_edit_file_text(self) -> str:
@@ -57,6 +64,7 @@ class Reader:
 
     need_tests: bool
     folders: tuple[str, ...] = CRATE_FOLDERS
+    have_rules: bool = False
     mutants: list[Mutant] = field(default_factory=list)
     file: str = ""
     old: str = ""
@@ -86,6 +94,8 @@ class Reader:
     def read_field(self, mutant: Mutant, key: str, value: str) -> None:
         if key == "fails" and self.need_tests and not mutant.test:
             mutant.test = value.strip()
+        elif key == "rule" and self.have_rules and mutant.rules is None and not self.file:
+            mutant.rules = rule_names_in_list(value)
         elif key == "file":
             self.file = self.path_in_allowed_folders_or_refuse(value.strip())
         elif key == "old" and self.file and not self.old:
@@ -116,11 +126,30 @@ class Reader:
         self.has_ended = True
 
 
+def rule_names_in_list(value: str) -> tuple[str, ...]:
+    """The names of rules in a list that commas part; none where it is the word for that.
+
+    >>> rule_names_in_list(" rfc6298.expiry, own.limit")
+    ('rfc6298.expiry', 'own.limit')
+    >>> rule_names_in_list(" none")
+    ()
+    """
+    names = tuple(map(str.strip, value.split(",")))
+    if names == (NO_RULE,):
+        return ()
+    for name in names:
+        if not RULE.fullmatch(name):
+            raise MutantError(f"'{name}' is no name of a rule, as in docs/RULES.md")
+    if len({*names}) < len(names):
+        raise MutantError(f"'rule:{value}' has a name twice")
+    return names
+
+
 def parse_mutants_of_text(
     text: str, need_tests: bool = False, folders: tuple[str, ...] = CRATE_FOLDERS
 ) -> list[Mutant]:
     """The mutants of a text; an error has the number of its line."""
-    reader = Reader(need_tests, folders)
+    reader = Reader(need_tests, folders, have_rules=not need_tests and bool(folders))
     lines = text.removesuffix("\n").split("\n")
     for number, line in enumerate([*lines, ""], 1):
         try:
