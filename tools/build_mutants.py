@@ -9,13 +9,13 @@ rules that it breaks, and what is wrong; those that can't be built, and why; and
 of 4 octets, the least first. Mutants that break no rule of the sender are left out.
 
 Where the sender itself doesn't compile, standard error has a line `unproved: NotCompiled: ..` and below it what the
-compiler says, and the status is 2. That is so, too, where a mutant can't be read or names no rule or an unknown one, with
-`unproved: BadMutant: ..`. Where nothing can be built or kept so, the line is `unproved: NoBuild: ..` and the status is 3.
+compiler says, and the status is 2. It is 2, too, with a line `unproved: BadMutant: ..` where a mutant can't be read, or
+names no rule or an unknown one. Where nothing can be built or kept so, the line is `unproved: NoBuild: ..` and the
+status is 3.
 """
 from __future__ import annotations
 
 import argparse
-import contextlib
 import json
 import os
 import re

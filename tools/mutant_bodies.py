@@ -23,7 +23,7 @@ Span = tuple[int, int]
 
 
 @dataclass(frozen=True)
-class Edit:
+class BodyEdit:
     """A change of a mutant where it applies: the file, the body, the place, and the text that comes there."""
 
     file: str
@@ -43,7 +43,7 @@ class MutantLines:
 
 @dataclass
 class AppliedMutants:
-    """What became of mutants: the lines of their bodies, and why some were left out, by their numbers."""
+    """The outcome of mutants: the lines of their bodies, and why some were left out, by their numbers."""
 
     bodies: list[MutantLines] = field(default_factory=list)
     left_out: dict[int, str] = field(default_factory=dict)
@@ -88,7 +88,7 @@ class SourceTexts:
 def apply_all_mutants(mutants: Mapping[int, Mutant], tree: Path) -> AppliedMutants:
     """Puts mutants into a tree by their numbers, from 1 on; one that can't be applied is left out."""
     applied, sources = AppliedMutants(), SourceTexts(tree)
-    edits: dict[str, dict[Span, dict[int, list[Edit]]]] = {}
+    edits: dict[str, dict[Span, dict[int, list[BodyEdit]]]] = {}
     for number, mutant in mutants.items():
         try:
             found = [it for change in mutant.changes for it in edits_of_change(change, bool(mutant.test), sources)]
@@ -104,20 +104,20 @@ def apply_all_mutants(mutants: Mapping[int, Mutant], tree: Path) -> AppliedMutan
     return applied
 
 
-def edits_of_change(change: TextChange, any_blanks: bool, sources: SourceTexts) -> list[Edit]:
+def edits_of_change(change: TextChange, any_blanks: bool, sources: SourceTexts) -> list[BodyEdit]:
     """The edits of bodies that make a change: of one body, or for a constant of all that use it in its crate."""
     text = sources.text(change.file)
     begin, end = find_only_span_of_old_text(change, text, any_blanks)
     for body in sources.bodies(change.file):
         if body[0] <= begin and end <= body[1]:
-            return [Edit(change.file, body, (begin, end), change.new)]
+            return [BodyEdit(change.file, body, (begin, end), change.new)]
     edits = list(_edits_of_constant(change, text, (begin, end), sources))
     if not edits:
         raise MutantError(f"{change.file}: '{change.old}' stands in no function")
     return edits
 
 
-def _edits_of_constant(change: TextChange, text: str, place: Span, sources: SourceTexts) -> Iterator[Edit]:
+def _edits_of_constant(change: TextChange, text: str, place: Span, sources: SourceTexts) -> Iterator[BodyEdit]:
     """The edits that put another value in the place of a constant, wherever a function of its crate names it."""
     begin, end = place
     item = next((it for it in _CONSTANT.finditer(text) if it.start() <= begin and end <= it.end()), None)
@@ -129,11 +129,11 @@ def _edits_of_constant(change: TextChange, text: str, place: Span, sources: Sour
     for file in sources.files_of_crate(change.file):
         for first, last in sources.bodies(file):
             for use in re.finditer(rf"\b{item[1]}\b", sources.text(file)[first:last]):
-                yield Edit(file, (first, last), (first + use.start(), first + use.end()), f"({changed[2]})")
+                yield BodyEdit(file, (first, last), (first + use.start(), first + use.end()), f"({changed[2]})")
 
 
 def _write_with_a_body_for_each_number(
-    tree: Path, file: str, text: str, edits: Mapping[Span, Mapping[int, list[Edit]]], applied: AppliedMutants
+    tree: Path, file: str, text: str, edits: Mapping[Span, Mapping[int, list[BodyEdit]]], applied: AppliedMutants
 ) -> None:
     """Writes a file whose functions have a body for each number that changes them, and notes their lines."""
     parts: list[str] = []
@@ -157,7 +157,7 @@ def _write_with_a_body_for_each_number(
     (tree / file).write_text("".join(parts))
 
 
-def _changed_body(text: str, body: Span, edits: list[Edit]) -> str:
+def _changed_body(text: str, body: Span, edits: list[BodyEdit]) -> str:
     """A body after edits."""
     begin, end = body
     for edit in sorted(edits, key=lambda it: it.place, reverse=True):

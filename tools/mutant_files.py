@@ -1,9 +1,9 @@
 """The mutants that stand in one file, of a crate or of Python and shell, and how one is applied.
 
 A mutant is a title line, `# NAME`, and the lines below it: `file: PATH`, and after that pairs of `old: TEXT` and
-`new: TEXT`, each of one line. A mutant that no proof refuses has a line `fails: TEST` before these. One of the sender has
-a line `rule: NAME[, NAME..]` there: the rules of the sender that it breaks, as docs/RULES.md names them, or `none` where
-it breaks only what the program keeps or says of the sender. Empty lines part mutants.
+`new: TEXT`, each of one line. A mutant that no proof refuses has a line `fails: TEST` before these. One of the sender
+has a line `rule: NAME[, NAME..]` there: the rules of the sender that it breaks, as docs/RULES.md names them, or `none`
+where it breaks only what the program keeps or says of the sender. Empty lines part mutants.
 
 Mutants of a crate are in its files `contracts.mutants` and `tests.mutants`, and name a file below src/, specs/ or
 proofs/. Those of Python and shell are in the files `client/*.mutants`, `tools/*.mutants` and `tests/*.mutants`, and

@@ -1,12 +1,12 @@
 """The mutants of the sender, each with the rules that it breaks: those of its crates that change code.
 
-They stand in the files `contracts.mutants` and `must-fail/*.edit` of the crates that are the sender. A mutant names rules
-by the names that client/pdsuite/rules/rules.toml lists, or that the list is to have.
+They stand in the files `contracts.mutants` and `must-fail/*.edit` of the crates that are the sender. A mutant names
+rules by the names that client/pdsuite/rules/rules.toml lists, or that the list is to have.
 """
 from __future__ import annotations
 
 import tomllib
-from collections.abc import Iterable, Iterator, Set
+from collections.abc import Iterator, Set
 from dataclasses import dataclass
 from pathlib import Path
 
@@ -95,7 +95,7 @@ class SenderMutant:
 
     @property
     def words(self) -> str:
-        """What is wrong, in a line: each change with its file, and blanks as one."""
+        """The mistake in a line: each change with its file, and blanks as one."""
         each = (f"{it.file}: {_in_one_line(it.old)} -> {_in_one_line(it.new)}" for it in self.mutant.changes)
         return "; ".join(each)
 
@@ -148,8 +148,3 @@ def _mutant_of_edit_file(path: Path) -> Mutant:
     except MutantError as why:
         raise MutantError(f"{path}: {why}") from None
     return mutant
-
-
-def mutants_of_rule(mutants: Iterable[SenderMutant], rule: str) -> list[SenderMutant]:
-    """The mutants that break a rule."""
-    return [it for it in mutants if rule in it.rules]

@@ -336,6 +336,7 @@ def search_command(
 @workers_option
 @click.option("--rule", metavar="NAME", type=RuleParam(), help="List the scripts that come to this rule.")
 @click.option("--script", metavar="FILE", type=PathParam(), help="List the rules that this script comes to.")
+@click.option("--mutants", "tries_mutants", is_flag=True, help="Run scripts where rules are broken, too.")
 @html_option
 @click.option("--json", "is_json", is_flag=True, help="Print JSON.")
 def rules_command(no_color: bool, **words: Any) -> int:
@@ -344,6 +345,10 @@ def rules_command(no_color: bool, **words: Any) -> int:
     A script comes to a rule when, at an event that passes, a packet leaves by the rule, the rule decides on a segment
     that arrives, or the sender enters that state or phase. Rules that no script comes to stand first, marked none, with
     their words. Each other line names the shortest script. A page has all scripts of each rule, with their lines.
+
+    With --mutants the sender is built with its mutants, wrong changes that break a rule each, and scripts are run under
+    each mutant. Each rule with mutants is guarded (each mutant turns a script), only come to, or not come to. Mutants
+    that turn no script stand below their rule. Without PATHS the scripts of examples/suite are run.
     """
     # Only who lists rules pays for what counts them.
     from pdsuite.commands.rules import RulesOptions, list_rules_of_scripts
@@ -351,13 +356,19 @@ def rules_command(no_color: bool, **words: Any) -> int:
     options = RulesOptions(**words)
     _refuse_conflicting_rules_options(options)
     with Screen(is_no_color_unset() and not no_color, progress=not options.is_json) as screen:
+        if options.tries_mutants:
+            from pdsuite.commands.rule_mutants import list_guarded_rules
+
+            return list_guarded_rules(options, screen)
         return list_rules_of_scripts(options, screen)
 
 
 def _refuse_conflicting_rules_options(options: "RulesOptions") -> None:
     """Refuses words that go with a script that is named, where others are meant, and the other way round."""
-    if options.script is None and not options.paths:
-        raise click.UsageError("Missing argument 'PATHS...', or --script")
+    if options.tries_mutants and (options.script is not None or options.html is not None):
+        raise click.UsageError("--mutants tries rules on scripts, and takes no --script or --html")
+    if options.script is None and not options.paths and not options.tries_mutants:
+        raise click.UsageError("Missing argument 'PATHS...', --script or --mutants")
     if options.script is not None and (options.paths or options.only or options.rule is not None):
         raise click.UsageError("--script lists the rules of one script, and takes no PATH, --only or --rule")
     if options.html is not None and (options.rule is not None or options.script is not None):

@@ -224,8 +224,8 @@ def test_json_has_the_rules_of_a_script(fake_program: Path, tmp_path: Path, call
 
 
 MISUSED = [
-    ((), "Missing argument 'PATHS...', or --script"),
-    (("--rule", ACK), "Missing argument 'PATHS...', or --script"),
+    ((), "Missing argument 'PATHS...', --script or --mutants"),
+    (("--rule", ACK), "Missing argument 'PATHS...', --script or --mutants"),
     (("--script", "a.pkt", "."), "--script lists the rules of one script, and takes no PATH, --only or --rule"),
     (
         ("--script", "a.pkt", "--only", "a"),

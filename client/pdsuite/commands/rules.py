@@ -58,6 +58,7 @@ class RulesOptions:
     script: Path | None
     is_json: bool
     html: Path | None = None
+    tries_mutants: bool = False
 
     @property
     def script_paths(self) -> Sequence[Path]:
@@ -77,13 +78,12 @@ def list_rules_of_scripts(options: RulesOptions, screen: Screen) -> int:
             look = client_programs_lookup(REGRESS)
             steady, is_unproved = SenderGuard(look), _is_unproved(look)
             program = proved_or_built_program(REGRESS, stop, screen)
-            refused = query_refusal_lines(suite.all_claims(), lambda: Program([program, LIST_RULES], stop))
-            if lines := [*unused_table_warning_lines_under_paths(suite, options.script_paths), *refused]:
+            if lines := refused_settings_lines(suite, options.script_paths, program, stop):
                 for line in lines:
                     print_line_on_stderr(line)
                 return _FAULT
             page = None if options.html is None else _rules_page_in_folder(options.html)
-            run = _run_scripts(scripts, program, options.workers, screen, stop)
+            run = reach_rules_of_scripts(scripts, program, options.workers, screen, stop)
             steady.require_unchanged("list the rules again")
         except StoppedError as stopped:
             return stopped.status
@@ -108,9 +108,16 @@ def _rules_page_in_folder(folder: Path) -> "RulesPage":
     return RulesPage(folder)
 
 
-def _run_scripts(
+def refused_settings_lines(suite: SuiteConfig, paths: Sequence[Path], program: Path, stop: Stop) -> list[str]:
+    """A line for each table of settings that no script has, and for each setting that the program refuses."""
+    refused = query_refusal_lines(suite.all_claims(), lambda: Program([program, LIST_RULES], stop))
+    return [*unused_table_warning_lines_under_paths(suite, paths), *refused]
+
+
+def reach_rules_of_scripts(
     scripts: Sequence[SuiteScript], program: Path, workers: int | None, screen: Screen, stop: Stop
 ) -> RuleRun:
+    """The rules that scripts come to, by the program."""
     mapper = local_mapper(program, (LIST_RULES, *EXPLAIN_FAILURES), thread_count_or_one_per_processor(workers), stop)
     with closing(mapper(batch_scripts_by_equal_settings(scripts))) as steps:
         return gather_reached_rules(

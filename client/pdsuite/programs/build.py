@@ -14,11 +14,12 @@ from typing import IO, Literal
 
 from pdsuite.faults import Fault
 from pdsuite.output.octets import printable_octets
-from pdsuite.programs.locate import BUILD_TOOL
+from pdsuite.programs.locate import BUILD_TOOL, MUTANTS_TOOL
 from pdsuite.signals import Stop
 
 # `optimised` runs fastest, `plain` is built first and says where it stops, `any` is what is kept, or else plain.
-BuildMode = Literal["plain", "optimised", "any"]
+# `mutants` has all mutants of the sender, too; a tool of its own builds it.
+BuildMode = Literal["plain", "optimised", "any", "mutants"]
 
 _READ = 1 << 16
 _GRACE = 15.0
@@ -50,7 +51,7 @@ def build_if_needed_and_get_folder(
 
     Raises BuildError where the sources don't compile, and NoKeptBuildError where none can be built and kept.
     """
-    if not BUILD_TOOL.is_file():
+    if not _build_tool(mode).is_file():
         raise NoKeptBuildError("the tree has no tool that builds")
     with Build(tree, mode) as building:
         poll = select.poll()
@@ -142,7 +143,12 @@ class Build:
 
 def _build_command(tree: Path, mode: BuildMode, *words: str) -> list[str | Path]:
     # As the tools start each other: what isn't requested isn't looked for either.
-    return [sys.executable, "-EsSB", BUILD_TOOL, "--way", mode, "--tree", tree, *words]
+    way = [] if mode == "mutants" else ["--way", mode]
+    return [sys.executable, "-EsSB", _build_tool(mode), *way, "--tree", tree, *words]
+
+
+def _build_tool(mode: BuildMode) -> Path:
+    return MUTANTS_TOOL if mode == "mutants" else BUILD_TOOL
 
 
 def _last_built_folder_in_output(output: bytes) -> Path:

@@ -15,6 +15,8 @@ PACKAGE_VERSION = TOP / "version"
 BATCH_TOOL = TOP / "tools/run_batch.py"
 # The tool that builds them so and keeps them, for any tree.
 BUILD_TOOL = TOP / "tools/build_unproved.py"
+# The tool that builds a tree's sender with all of its mutants.
+MUTANTS_TOOL = TOP / "tools/build_mutants.py"
 # The tool that says where a tree's program is, if it is proved.
 PROVED_TOOL = "tools/proved_program.sh"
 REGRESS = "pdregress"

@@ -58,7 +58,7 @@ def rules_of_script_text(script: ReachedRules) -> StyledText:
 
 def table_json(uses: Sequence[RuleUse], run: RuleRun, is_unproved: bool) -> StyledText:
     """The object of the table."""
-    return _object_text({}, "rules", map(_use_object, uses), {"total": _totals(uses, run), **_mark_of(is_unproved)})
+    return object_text({}, "rules", map(_use_object, uses), {"total": _totals(uses, run), **mark_of(is_unproved)})
 
 
 def _use_object(use: RuleUse) -> Mapping[str, object]:
@@ -72,20 +72,21 @@ def scripts_of_rule_json(use: RuleUse, is_unproved: bool) -> StyledText:
     """The object of the scripts that come to a rule."""
     name, words = use.rule.name, use.rule.words
     objects = ({"path": printable_path(it.path), "lines": it.lines_of_rule(name)} for it in use.scripts)
-    return _object_text({"rule": name, "words": words}, "scripts", objects, _mark_of(is_unproved))
+    return object_text({"rule": name, "words": words}, "scripts", objects, mark_of(is_unproved))
 
 
 def rules_of_script_json(script: ReachedRules, is_unproved: bool) -> StyledText:
     """The object of a script with its rules."""
     objects = ({"line": line, "rules": list(names)} for line, names in script.rules_by_line.items())
-    return _object_text({"path": printable_path(script.path)}, "lines", objects, _mark_of(is_unproved))
+    return object_text({"path": printable_path(script.path)}, "lines", objects, mark_of(is_unproved))
 
 
-def _mark_of(is_unproved: bool) -> Mapping[str, object]:
+def mark_of(is_unproved: bool) -> Mapping[str, object]:
+    """The member that says that a sender isn't proved."""
     return {UNPROVED: True} if is_unproved else {}
 
 
-def _object_text(
+def object_text(
     first: Mapping[str, object], key: str, items: Iterable[Mapping[str, object]], last: Mapping[str, object]
 ) -> StyledText:
     """An object with a list at this key, a line for each of its items, between other members."""
