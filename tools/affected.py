@@ -1,5 +1,5 @@
 #!/usr/bin/env -S python3 -B
-"""Which rows of tests/cases and paragraphs of pages a changed sender affects; `pdsuite compare` runs it.
+"""Which rows of tests/cases, paragraphs of pages and rules a changed sender affects; `pdsuite compare` runs it.
 
 affected.py starts: prints how the programs are started for the rows. Each start is three parts: the program's name and
 its arguments, with zeros between them; its input; and how many octets it writes at most. A part is octets after a line
@@ -12,6 +12,9 @@ FOLDER is the tree of the sender before, by which the paragraphs are found.
 
 affected.py changed --before FOLDER [--after FOLDER]: prints JSON that lists the functions and constants of the sender
 that changed, with the names in them. Without --after it is this tree's.
+
+affected.py rules --before FOLDER [--after FOLDER]: prints JSON with the names of the affected rules, each with the
+definitions, the code and the defaults that changed, and with those that affect no rule.
 """
 from __future__ import annotations
 
@@ -24,6 +27,7 @@ from dataclasses import asdict
 from pathlib import Path
 from typing import Optional
 
+from affected_rules import affected_rules
 from affected_sections import affected_paragraphs_and_unmatched_items, each_changed_code_item_with_names
 
 TOP = Path(__file__).resolve().parents[1]
@@ -90,12 +94,15 @@ def main(arguments: Sequence[str]) -> int:
     list_command = commands.add_parser("list")
     list_command.add_argument("--before", metavar="FOLDER", type=Path)
     list_command.add_argument("answers", metavar="ANSWERS", type=Path)
-    changed_command = commands.add_parser("changed")
-    changed_command.add_argument("--before", metavar="FOLDER", type=Path, required=True)
-    changed_command.add_argument("--after", metavar="FOLDER", type=Path, default=TOP)
+    for name in ("changed", "rules"):
+        command = commands.add_parser(name)
+        command.add_argument("--before", metavar="FOLDER", type=Path, required=True)
+        command.add_argument("--after", metavar="FOLDER", type=Path, default=TOP)
     options = parser.parse_args(arguments)
     if options.command == "changed":
         print(json.dumps([asdict(it) for it in each_changed_code_item_with_names(options.before, options.after)]))
+    elif options.command == "rules":
+        print(json.dumps(asdict(affected_rules(options.before, options.after))))
     elif options.command == "starts":
         sys.stdout.buffer.writelines(
             encode_program_call_with_output_limit(it) for it in calls_of_tables(tables_about_sender())
