@@ -241,7 +241,8 @@ def test_rules_are_listed_before_the_total_where_they_are_requested(
     starts = [(it / "starts").read_text().split() for it in (before, after)]
     if words:
         lines = [f"rule {RST}: no script before, 2 after", *(f"  s/{it}.pkt: newly (line 2)" for it in "ab")]
-        assert (called.status, lines_on_rules(called)) == (1, lines)
+        unknown = f"changed rules: unknown, since the sources of {before} and {after} aren't known"
+        assert (called.status, lines_on_rules(called)) == (1, [*lines, unknown])
         assert [it.count("--rules") for it in starts] == [2, 2]
     else:
         assert (called.status, lines_on_rules(called)) == (0, [])
@@ -253,7 +254,8 @@ def test_of_a_sender_that_lists_no_rules_one_line_is_said(suite: Path, tmp_path:
     before, after = make_old_sender(tmp_path / "before"), make_sender(tmp_path / "after")
     called = call(None, "compare", "--rules", "--base", before, "--with", after, "s")
     assert (called.status, called.err) == (0, f"pdsuite: before: {before}; after: {after}\n")
-    assert lines_on_rules(called) == [f"rules: unknown, since {before} knows no option --rules"]
+    unknown = f"changed rules: unknown, since the sources of {before} and {after} aren't known"
+    assert lines_on_rules(called) == [f"rules: unknown, since {before} knows no option --rules", unknown]
 
 
 @pytest.mark.parametrize("is_old", [False, True])

@@ -28,6 +28,14 @@ _TOOLS = (
     "run_cases.py",
     "rt_try.py",
 )
+_AFFECTED_TOOLS = (
+    "changed_rules.py",
+    "affected.py",
+    "affected_defaults.py",
+    "affected_rules.py",
+    "affected_sections.py",
+    "rule_sources.py",
+)
 _STAND_INS = {
     "rt": "fake_rt.py",
     "pdregress": "fake_pdregress.py",
@@ -104,7 +112,7 @@ class Tree:
 
     def put_rows(self, rows: str) -> None:
         """Gives it tests: rows, and what runs them."""
-        for name in ("changed_rules.py", "affected.py", "affected_defaults.py", "affected_sections.py"):
+        for name in _AFFECTED_TOOLS:
             shutil.copy(TOP / "tools" / name, self.top / "tools")
         for name in ("drawn", "model", "harness"):
             shutil.copytree(

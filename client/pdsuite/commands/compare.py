@@ -1,5 +1,6 @@
 """`pdsuite compare`: what two senders do with the same scripts, before a change and after it."""
 
+import shlex
 import time
 from collections.abc import Sequence
 from dataclasses import dataclass, replace
@@ -10,7 +11,10 @@ from typing import TYPE_CHECKING
 from pdsuite.commands.options import thread_count_or_one_per_processor
 from pdsuite.compare.affected import (
     Affected,
+    AffectedRules,
     RowStarts,
+    affected_rules_of_trees,
+    can_find_affected_rules,
     find_affected_rows_and_paragraphs,
     query_test_row_starts_of_sender,
 )
@@ -34,10 +38,12 @@ from pdsuite.signals import Stop, StoppedError
 
 if TYPE_CHECKING:
     from pdsuite.commands.search import SearchOptions
-    from pdsuite.compare.rule_changes import RuleChanges
+    from pdsuite.compare.rule_changes import ChangedRules, RuleChanges
     from pdsuite.page.comparison import ComparisonPage
 
 _FAULT = 2
+# For so many seconds the search for a script takes that is offered for a rule.
+_SEARCH = 60
 
 
 @dataclass(frozen=True)
@@ -59,6 +65,27 @@ class CompareOptions:
     is_markdown: bool = False
     rules: bool = False
     search: "SearchOptions | None" = None
+
+    @property
+    def command_of_search_for_rule(self) -> str:
+        """The command that searches, with the same senders, for a script that comes to a rule; its name is missing."""
+        given = (
+            ("--base", self.base),
+            ("--with", self.other),
+            ("--settings", self.settings),
+            ("--base-settings", self.base_settings),
+            ("--with-settings", self.with_settings),
+        )
+        words = [word for name, value in given if value for word in (name, value)]
+        return shlex.join(["pdsuite", "compare", *words, "--search", str(_SEARCH), "--for"]) + " rule:"
+
+
+@dataclass(frozen=True)
+class _AffectedParts:
+    """What a change affects in its tree, and the rules whose sources changed or why they are unknown, as requested."""
+
+    tree: Affected | None
+    rules: AffectedRules | str | None
 
 
 def compare_senders(options: CompareOptions, screen: Screen) -> int:
@@ -93,10 +120,9 @@ def compare_senders(options: CompareOptions, screen: Screen) -> int:
                 screen.print_note_on_stderr,
             )
             steady.require_unchanged("compare again")
-            affected = (
-                None
-                if row_starts is None
-                else _find_affected_rows_and_paragraphs(row_starts, senders[0], results, Path(room))
+            affected = _AffectedParts(
+                _affected_rows_and_paragraphs_if_requested(row_starts, senders[0], results, Path(room)),
+                _affected_rules_or_why_unknown(senders, Path(room)) if options.rules else None,
             )
             return _report_comparison_returning_exit_status(senders, results, (page, affected), options, screen, begin)
     except SideSettingsError as refused:
@@ -143,18 +169,31 @@ def _comparison_page_in_folder(folder: Path) -> "ComparisonPage":
     return ComparisonPage(folder)
 
 
-def _find_affected_rows_and_paragraphs(
-    row_starts: RowStarts, before: Sender, results: Sequence[SenderResults], room: Path
-) -> Affected:
+def _affected_rows_and_paragraphs_if_requested(
+    row_starts: RowStarts | None, before: Sender, results: Sequence[SenderResults], room: Path
+) -> Affected | None:
     """The rows and paragraphs that the change affects in the tree of the sender after it."""
+    if row_starts is None:
+        return None
     sources = before.find_or_check_out_sources(room / "sources")
     return find_affected_rows_and_paragraphs(row_starts, [it.outputs for it in results], sources, room)
+
+
+def _affected_rules_or_why_unknown(senders: tuple[Sender, Sender], room: Path) -> AffectedRules | str:
+    """The rules whose sources changed from one sender to the other."""
+    if not can_find_affected_rules():
+        return "here is no tree with tools/affected.py"
+    trees = [it.find_or_check_out_sources(room / f"sources {side}") for it, side in zip(senders, ("before", "after"))]
+    if names := [str(it) for it, tree in zip(senders, trees) if tree is None]:
+        return f"the sources of {' and '.join(dict.fromkeys(names))} aren't known"
+    before, after = filter(None, trees)
+    return affected_rules_of_trees(before, after)
 
 
 def _report_comparison_returning_exit_status(
     senders: tuple[Sender, Sender],
     results: Sequence[SenderResults],
-    more: "tuple[ComparisonPage | None, Affected | None]",
+    more: "tuple[ComparisonPage | None, _AffectedParts]",
     options: CompareOptions,
     screen: Screen,
     begin: float,
@@ -165,11 +204,16 @@ def _report_comparison_returning_exit_status(
     compared = compare_results(before, after)
     is_unproved = not all(it.is_proved for it in senders)
     names = (str(senders[0]), str(senders[1]))
-    rules = _changes_of_reached_rules(compared, (before, after), names) if options.rules else None
+    rules = None
+    if affected.rules is not None:
+        changed = _changed_rules(affected.rules, compared, (before, after), options.command_of_search_for_rule)
+        rules = replace(_changes_of_reached_rules(compared, (before, after), names), changed=changed)
     if page is not None:
         page.write_page_and_remove_stale(compared, (before, after), names, is_unproved, rules)
     seconds = time.monotonic() - begin
-    report = ComparisonReport(compared, affected, seconds, is_unproved, Quantity(options.sort), options.every, rules)
+    report = ComparisonReport(
+        compared, affected.tree, seconds, is_unproved, Quantity(options.sort), options.every, rules
+    )
     if options.is_markdown:
         screen.show(whole_comparison_as_markdown(report, names))
     else:
@@ -188,6 +232,23 @@ def _changes_of_reached_rules(
     from pdsuite.rules.changes import changes_of_reached_rules
 
     return changes_of_reached_rules(compared, *results, names)
+
+
+def _changed_rules(
+    affected: AffectedRules | str,
+    compared: Sequence[ComparedScript],
+    results: tuple[SenderResults, SenderResults],
+    command: str,
+) -> "ChangedRules | None":
+    """The rules whose sources changed, with their scripts; none where no sender says which these are."""
+    from pdsuite.compare.rule_changes import ChangedRules
+    from pdsuite.rules.changed_rules import changed_rules_with_scripts
+
+    if all(it.rules is None for it in results):
+        return None
+    if isinstance(affected, str):
+        return ChangedRules(why_unknown=affected)
+    return changed_rules_with_scripts(affected, compared, *results, command)
 
 
 def _wrap_prose_to_terminal(text: StyledText, screen: Screen) -> StyledText:

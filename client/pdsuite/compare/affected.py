@@ -1,10 +1,10 @@
-"""The effects of a changed sender on its tree: rows of tests/cases that say otherwise now, and paragraphs of pages."""
+"""The effects of a changed sender on its tree: rows of tests/cases that say otherwise now, paragraphs, and rules."""
 
 import json
 import os
 import subprocess
 import sys
-from collections.abc import Callable, Iterator, Sequence
+from collections.abc import Callable, Iterator, Mapping, Sequence
 from concurrent.futures import ThreadPoolExecutor
 from dataclasses import dataclass, replace
 from pathlib import Path
@@ -123,6 +123,25 @@ def changed_functions_and_constants_of_trees(before: Path | None, after: Path | 
         return []
     changed: list[dict[str, Any]] = json.loads(_run_affected_tool(TOP, "changed", "--before", before, "--after", after))
     return changed
+
+
+@dataclass(frozen=True)
+class AffectedRules:
+    """The rules whose sources changed, each with what changed of them; and what changed and states no rule."""
+
+    rules: Mapping[str, tuple[str, ...]]
+    others: tuple[str, ...]
+
+
+def can_find_affected_rules() -> bool:
+    """Whether this is a tree, which has what reads the sources of senders."""
+    return (TOP / _TOOL).is_file()
+
+
+def affected_rules_of_trees(before: Path, after: Path) -> AffectedRules:
+    """The rules whose sources changed between two trees."""
+    found = json.loads(_run_affected_tool(TOP, "rules", "--before", before, "--after", after))
+    return AffectedRules({rule: tuple(by) for rule, by in found["rules"].items()}, tuple(found["others"]))
 
 
 def run_starts_on_programs(programs: dict[str, Path], row_starts: RowStarts, stop: Stop) -> list[ProcessOutput]:

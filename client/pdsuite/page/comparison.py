@@ -12,7 +12,7 @@ from pdsuite.compare.comparison import (
     counts_by_folder_and_total,
 )
 from pdsuite.compare.groups import group_by_first_difference
-from pdsuite.compare.rule_changes import RuleChanges
+from pdsuite.compare.rule_changes import ChangedRules, RuleChanges
 from pdsuite.diagram.failing_line import failing_line_of
 from pdsuite.diagram.timeline import timeline_if_any_packet
 from pdsuite.files import write_file_atomically
@@ -23,6 +23,14 @@ from pdsuite.page.links import page_file_name_of
 from pdsuite.page.render import render_comparison_page
 from pdsuite.programs.trace import traced_events_in
 from pdsuite.programs.verdict import Verdict
+from pdsuite.reports.changed_rules import (
+    changed_rule_in_words,
+    line_if_changed_rules_unknown_or_none,
+    line_on_what_states_no_rule,
+    scripts_of_changed_rule,
+    way_to_script_of_changed_rule,
+    what_changed_in_words,
+)
 from pdsuite.reports.comparison import compared_script_lines
 from pdsuite.reports.rule_changes import (
     UNREACHED,
@@ -59,21 +67,26 @@ class ComparisonSection:
 
 @dataclass(frozen=True, slots=True)
 class ChangedRuleSection:
-    """A rule that other scripts come to: its counts, a warning if no script does any more, and scripts with lines."""
+    """A rule: its counts, a warning if no script comes to it, scripts with lines, and what changed."""
 
+    place: str
     name: str
     words: str
     counts: str
     warning: str
     scripts: tuple[tuple[str, str], ...]
+    changed: str = ""
 
 
 @dataclass(frozen=True, slots=True)
 class ComparedRules:
-    """The rules of a page, or the line that stands in their place."""
+    """A part of a page with rules, or with the line that stands in their place; and lines below them."""
 
+    name: str
+    title: str
     line: str
     sections: tuple[ChangedRuleSection, ...]
+    below: tuple[str, ...] = ()
 
 
 class ComparisonPage:
@@ -94,14 +107,16 @@ class ComparisonPage:
         """Writes the page."""
         sections = tuple(_yield_sections_turned_first(compared, results))
         counts: tuple[KindCounts, ...] = tuple(counts_by_folder_and_total(compared))
-        shown = None if rules is None else _compared_rules(rules)
+        shown = () if rules is None else tuple(_parts_with_rules(rules))
         write_file_atomically(self._folder / TABLE, render_comparison_page(sections, counts, shown, names, is_unproved))
         remove_stale_pages(self._folder, (), ())
 
 
-def _compared_rules(found: RuleChanges) -> ComparedRules:
+def _parts_with_rules(found: RuleChanges) -> Iterator[ComparedRules]:
+    """The rules that other scripts come to, and those whose sources changed."""
     sections = (
         ChangedRuleSection(
+            it.name,
             it.name,
             it.words,
             script_counts_in_words(it),
@@ -110,7 +125,28 @@ def _compared_rules(found: RuleChanges) -> ComparedRules:
         )
         for it in found.changes
     )
-    return ComparedRules(line_if_unknown_or_unchanged(found), tuple(sections))
+    title = "Rules that other scripts come to"
+    yield ComparedRules("rules", title, line_if_unknown_or_unchanged(found), tuple(sections))
+    if found.changed is not None:
+        yield _part_with_changed_rules(found.changed)
+
+
+def _part_with_changed_rules(found: ChangedRules) -> ComparedRules:
+    sections = (
+        ChangedRuleSection(
+            f"changed-{it.name}",
+            it.name,
+            it.words,
+            changed_rule_in_words(it),
+            "" if it.scripts else way_to_script_of_changed_rule(it, found),
+            tuple(scripts_of_changed_rule(it, is_every=True)),
+            f"Changed: {what_changed_in_words(it, is_every=True)}",
+        )
+        for it in found.rules
+    )
+    line = line_if_changed_rules_unknown_or_none(found)
+    below = tuple(line_on_what_states_no_rule(found, is_every=True))
+    return ComparedRules("changed-rules", "Rules whose sources changed", line, tuple(sections), below)
 
 
 def _yield_sections_turned_first(

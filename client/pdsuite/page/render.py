@@ -86,7 +86,7 @@ def render_script_page(sheet: ScriptView, is_unproved: bool = False) -> bytes:
 def render_comparison_page(
     sections: "Sequence[ComparisonSection]",
     counts: Sequence[KindCounts],
-    rules: "ComparedRules | None",
+    rules: "Sequence[ComparedRules]",
     names: tuple[str, str],
     is_unproved: bool,
 ) -> bytes:

@@ -4,10 +4,19 @@ from collections.abc import Iterator
 
 from pdsuite.compare.comparison import ComparedScript, ComparisonKind, counts_by_folder_and_total
 from pdsuite.compare.groups import Group
-from pdsuite.compare.rule_changes import RuleChange, RuleChanges
+from pdsuite.compare.rule_changes import ChangedRules, RuleChange, RuleChanges
 from pdsuite.output.octets import printable_path
 from pdsuite.output.styled_text import StyledText, styled_text_of_one_plain_piece
 from pdsuite.reports.affected import affected_lines
+from pdsuite.reports.changed_rules import (
+    changed_rule_in_words,
+    line_if_changed_rules_unknown_or_none,
+    line_on_more_scripts,
+    line_on_what_states_no_rule,
+    scripts_of_changed_rule,
+    way_to_script_of_changed_rule,
+    what_changed_in_words,
+)
 from pdsuite.reports.comparison import ComparisonReport, compared_script_lines
 from pdsuite.reports.quantities import total_and_changed_quantity_lines
 from pdsuite.reports.rule_changes import (
@@ -40,6 +49,7 @@ def _markdown_lines(report: ComparisonReport, names: tuple[str, str]) -> Iterato
         yield from _group_lines(kind, group, report.is_every)
     if report.rules is not None:
         yield from _rule_lines(report.rules, report.is_every)
+        yield from _changed_rule_lines(report.rules.changed, report.is_every)
     more = list(total_and_changed_quantity_lines(report.compared, report.sort, report.is_every))
     more += [] if report.affected is None else affected_lines(report.affected)
     if more:
@@ -88,6 +98,27 @@ def _lines_on_rule(it: RuleChange, is_every: bool) -> Iterator[str]:
         yield f"  - **{UNREACHED}**: {way_to_first_script(it)}"
     yield from (f"  - {_as_code(path)}: {words}" for path, words in scripts_with_their_lines(it, is_every))
     yield from (f"  - {line}" for line in line_on_scripts_left_out(it, is_every))
+
+
+def _changed_rule_lines(found: ChangedRules | None, is_every: bool) -> Iterator[str]:
+    """The rules whose sources changed, if they were looked for."""
+    if found is None:
+        return
+    yield ""
+    if line := line_if_changed_rules_unknown_or_none(found):
+        yield f"### {_escape_markup_but_backquotes(line)}"
+        return
+    count = len(found.rules)
+    yield f"### rules: the sources of {count or 'no'} {'rule' if count < 2 else 'rules'} changed"
+    yield ""
+    for it in found.rules:
+        yield f"- {_as_code(it.name)}: {_escape_markup_but_backquotes(changed_rule_in_words(it))}"
+        yield f"  - changed: {_escape_markup_but_backquotes(what_changed_in_words(it, is_every))}"
+        if not it.scripts:
+            yield f"  - {_escape_markup_but_backquotes(way_to_script_of_changed_rule(it, found))}"
+        yield from (f"  - {_as_code(path)}: {words}" for path, words in scripts_of_changed_rule(it, is_every))
+        yield from (f"  - {line}" for line in line_on_more_scripts(it, is_every))
+    yield from (f"- {_escape_markup_but_backquotes(it)}" for it in line_on_what_states_no_rule(found, is_every))
 
 
 def _details_block(title: str, lines: list[str]) -> Iterator[str]:

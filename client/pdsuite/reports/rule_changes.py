@@ -6,6 +6,7 @@ from pdsuite.compare.rule_changes import RuleChange, RuleChanges, ScriptAtRule
 from pdsuite.output.octets import printable_path
 from pdsuite.output.styled_text import StyledText
 from pdsuite.reports.affected import collapse_ranges
+from pdsuite.reports.changed_rules import changed_rules_json_object, changed_rules_text
 
 # So many scripts of a rule are shown that no longer come to it, and so many that newly do, where not all are requested.
 _MOST = 3
@@ -52,6 +53,12 @@ def line_on_scripts_left_out(it: RuleChange, is_every: bool) -> list[str]:
 
 
 def rule_changes_text(found: RuleChanges, is_every: bool) -> StyledText:
+    """The rules that other scripts come to, and below them those whose sources changed."""
+    text = _reached_rule_changes_text(found, is_every)
+    return text if found.changed is None else text.append_text(changed_rules_text(found.changed, is_every))
+
+
+def _reached_rule_changes_text(found: RuleChanges, is_every: bool) -> StyledText:
     """A line for each rule with its counts, and below it some of its scripts, or all."""
     text = StyledText()
     if line := line_if_unknown_or_unchanged(found):
@@ -71,6 +78,7 @@ def rule_changes_json_object(found: RuleChanges) -> dict[str, object]:
         "unknown": list(found.senders_without_rules),
         "scripts": found.script_count,
         "changes": [_rule_change_json_object(it) for it in found.changes],
+        **({} if found.changed is None else {"changed": changed_rules_json_object(found.changed)}),
     }
 
 
