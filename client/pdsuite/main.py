@@ -17,6 +17,7 @@ from pdsuite.commands.options import (
     no_color_option,
     optional_paths_and_script_options,
     required_paths_and_script_options,
+    rules_goal_option,
     last_failed_and_shard_options,
 )
 from pdsuite.commands.options import plot_selection_options, save_and_seed_options, strict_option, workers_option
@@ -220,36 +221,44 @@ def diff_command(old: Path, new: tuple[Path, ...], no_color: bool) -> int:
     type=click.IntRange(1, MOST_SECONDS),
     help="Search for a script that turns; cutting it down may take as long again.",
 )
+@rules_goal_option
 @save_and_seed_options
-def compare_command(no_color: bool, search: int | None, seed: int | None, save: Path | None, **words: Any) -> int:
+def compare_command(
+    no_color: bool, search: int | None, pattern: str | None, seed: int | None, save: Path | None, **words: Any
+) -> int:
     """Shows what a change of the sender does to scripts: which turn, and which are played otherwise.
 
     Without --base the sender before is the one that ./prove has proved last in this tree. With --affected, where the
     sender after is a tree, it names before the total what the change affects there: rows of tests/cases that say
     otherwise now, and paragraphs of docs/SENDER.md and docs/LINUX.md that cite a section of what changed. That takes
     some seconds, or minutes where a sender isn't proved. With --rules it names before the total each rule of the sender
-    that other scripts come to, with some of them. With --search it makes inputs of its own, in place of scripts, until
-    a recording of the sender before fails under the one after.
+    that other scripts come to, with some of them, and each whose sources changed, with the scripts to look at. With
+    --search it makes inputs of its own, in place of scripts, until a recording of the sender before fails under the one
+    after; with --for, one that comes to a rule.
     """
     # Only who compares senders pays for what runs two.
     from pdsuite.commands.compare import CompareOptions, compare_senders
 
-    options = CompareOptions(**words, search=_search_options_if_requested(search, seed, save))
+    options = CompareOptions(**words, search=_search_options_if_requested(search, pattern, seed, save))
     _refuse_conflicting_compare_options(options)
     with Screen(is_no_color_unset() and not no_color, progress=False) as screen:
         return compare_senders(options, screen)
 
 
-def _search_options_if_requested(seconds: int | None, seed: int | None, save: Path | None) -> "SearchOptions | None":
+def _search_options_if_requested(
+    seconds: int | None, pattern: str | None, seed: int | None, save: Path | None
+) -> "SearchOptions | None":
     """The options of a search, if one is requested."""
     if seconds is None:
+        if pattern is not None:
+            raise click.UsageError("--for is of --search: it says which scripts this counts")
         if seed is not None or save is not None:
             raise click.UsageError("--seed and --save are of --search")
         return None
-    from pdsuite.commands.search import SearchOptions
+    from pdsuite.commands.search import SearchOptions, goal_of_known_rules_alone
 
     gc.enable()  # a search makes many values
-    return SearchOptions(seconds, seed, save)
+    return SearchOptions(seconds, seed, save, None if pattern is None else goal_of_known_rules_alone(pattern))
 
 
 def _refuse_conflicting_compare_options(options: "CompareOptions") -> None:

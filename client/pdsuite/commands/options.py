@@ -101,6 +101,13 @@ goal_option = click.option(
     required=True,
     help="Facts of a state, NAME:VALUE each, and rules, rule:NAME each.",
 )
+rules_goal_option = click.option(
+    "--for",
+    "pattern",
+    metavar="rule:NAME",
+    type=GoalParam(),
+    help="Search only for scripts that come to this rule, before or after.",
+)
 no_color_option = click.option("--no-color", is_flag=True, help="No colours on a terminal.")
 
 

@@ -33,7 +33,7 @@ from pdsuite.search.finished_script import (
     prepend_comment_stating_row_of_rerun,
 )
 from pdsuite.search.generate import KEYS
-from pdsuite.search.goal import SearchGoal, parse_goal_if_valid
+from pdsuite.search.goal import RulesOnEitherSide, SearchGoal, parse_goal_if_valid
 from pdsuite.search.initial_inputs import record_corpus_without_fixed_settings, suite_scripts_of_tree
 from pdsuite.search.oracle import (
     SettingsOracle,
@@ -53,11 +53,20 @@ _AGAIN = "search again"
 
 @dataclass(frozen=True)
 class SearchOptions:
-    """How long a search takes in seconds, by which seed, and where its find goes."""
+    """How long a search takes in seconds, by which seed, and where its find goes.
+
+    A difference of senders counts only in a script that comes to the rules of a goal, if there is one.
+    """
 
     seconds: int
     seed: int | None
     save: Path | None
+    goal: SearchGoal | None = None
+
+    @property
+    def rules_in_words(self) -> str:
+        """The rules as they are given, if there are any."""
+        return "" if self.goal is None else " ".join(f"rule:{printable_text(it)}" for it in self.goal.rules)
 
 
 def search_goal(text: str, word: str | None, options: SearchOptions, screen: Screen) -> int:
@@ -105,6 +114,14 @@ def _goal_of_known_rules(text: str) -> SearchGoal:
         if refusal := refusal_of_rule_pattern_if_unmatched(rule):
             raise Fault(f"--for: {refusal}")
     return goal
+
+
+def goal_of_known_rules_alone(text: str) -> SearchGoal:
+    """The goal that a text says of `rule:NAME` alone, which names no rule that there isn't."""
+    goal = parse_goal_if_valid(text)
+    if goal is None or goal.state.facts:
+        raise Fault(f"--for: {printable_text(text)}: compare takes rule:NAME alone, with blanks between several")
+    return _goal_of_known_rules(text)
 
 
 def _show_and_save_reached(find: Find | None, text: str, sender: Sender, save: Path | None, screen: Screen) -> None:
@@ -155,16 +172,30 @@ def search_difference(
             emphasis,
             record_corpus_without_fixed_settings(scripts, before, emphasis.fixed),
         )
-        searched = Search(before, FailsTest(after), DiffersTest(after), drawing, options.seconds).run(
-            _bottom_line_progress_callback(screen)
-        )
+        fails, differs = _tests_of_counted_differences(options.goal, before, after)
+        searched = Search(before, fails, differs, drawing, options.seconds).run(_bottom_line_progress_callback(screen))
         steady.require_unchanged(_AGAIN)
         find = searched.find or searched.unshown
         if find is not None:
             _show_and_save_find(find, before, after, options, screen)
             screen.show(render_offer_as_suite_script(script_name_and_comment_of_changed_rule(changed)))
+        elif rules := options.rules_in_words:
+            what = f"no script was found that comes to {rules} and on which the senders differ\n"
+            screen.show(styled_text_of_one_plain_piece(what))
     screen.show(render_coverage_and_search_totals(searched, seed, not all(it.is_proved for it in senders)))
     return 0 if find is None else 1
+
+
+def _tests_of_counted_differences(
+    goal: SearchGoal | None, before: SideOracle, after: SideOracle
+) -> tuple[FailsTest, DiffersTest]:
+    """The tests of which inputs tell the senders apart, and come to the rules of a goal, if there is one."""
+    if goal is None:
+        return FailsTest(after), DiffersTest(after)
+    for it in (before, after):
+        it.require_that_rules_are_listed()
+    counted = RulesOnEitherSide(goal, (before, after))
+    return FailsTest(after, counted), DiffersTest(after, counted)
 
 
 def _side_oracles_without_lacked_keys(
@@ -196,9 +227,11 @@ def _show_and_save_find(
 ) -> None:
     """Shows what was found, as it is saved."""
     script = least_script_of_find(find, before, after)
+    rules = options.rules_in_words
     if options.save is not None:
+        head = [f"Comes to {rules}."] if rules else []
         script = prepend_comment_stating_row_of_rerun(
-            script, lambda row: _recording_sender_and_verdict_comment_lines(row, before, after), after
+            script, lambda row: [*head, *_recording_sender_and_verdict_comment_lines(row, before, after)], after
         )
     (other,) = after.record_inputs_or_scripts([find.inputs])
     settings = [it.settings_on_side(find.inputs.settings) for it in (before, after)]
@@ -206,7 +239,7 @@ def _show_and_save_find(
         what = "recordings differ, and no script that was tried shows it: the senders' packets differ at the end alone"
         screen.show(render_find_with_recordings_and_failure(find, what, settings, other.text, script.row, ()))
     else:
-        what = "a script fails under the sender after"
+        what = f"a script{f' that comes to {rules}' if rules else ''} fails under the sender after"
         screen.show(
             render_find_with_recordings_and_failure(
                 find, what, settings, other.text, script.row, after.explanation_lines_of_script(script.script)

@@ -1,6 +1,6 @@
 """The finds of a search: recorded inputs under which another sender differs, or a state is reached."""
 
-from collections.abc import Sequence
+from collections.abc import Callable, Sequence
 from dataclasses import dataclass
 from typing import Protocol
 
@@ -22,6 +22,10 @@ class Find:
     inputs: Inputs
     recording: str
     row: Row | None = None
+
+
+# Leaves out finds that don't count: there is none in the place of such a find.
+FindFilter = Callable[[Sequence[Find | None]], list[Find | None]]
 
 
 class FindTest(Protocol):
@@ -46,9 +50,10 @@ def configured_script_of_find(find: Find) -> ConfiguredScript:
 
 @dataclass(frozen=True)
 class FailsTest:
-    """Finds inputs whose recording fails under another sender."""
+    """Finds inputs whose recording fails under another sender, if they count."""
 
     other: SenderOracle
+    without_others: FindFilter = list
 
     def find_or_none_for_each_input(
         self, inputs: Sequence[Inputs], recordings: Sequence[Recording]
@@ -56,9 +61,12 @@ class FailsTest:
         made = [Find(it, recording.text) if recording.text else None for it, recording in zip(inputs, recordings)]
         rows = iter(self.other.run_scripts_for_rows([configured_script_of_find(it) for it in made if it is not None]))
         finds = [None if it is None else Find(it.inputs, it.recording, next(rows)) for it in made]
-        return [
-            it if it is not None and it.row is not None and it.row.verdict is not Verdict.PASS else None for it in finds
-        ]
+        return self.without_others(
+            [
+                it if it is not None and it.row is not None and it.row.verdict is not Verdict.PASS else None
+                for it in finds
+            ]
+        )
 
 
 @dataclass(frozen=True)
@@ -72,9 +80,10 @@ class SenderDifference:
 
 @dataclass(frozen=True)
 class DiffersTest:
-    """Finds inputs that another sender is recorded otherwise on, whether or not a script fails by it."""
+    """Finds inputs that another sender is recorded otherwise on, whether or not a script fails by it, if they count."""
 
     other: SenderOracle
+    without_others: FindFilter = list
 
     def sender_differences(
         self, inputs: Sequence[Inputs], recordings: Sequence[Recording]
@@ -89,10 +98,17 @@ class DiffersTest:
         self, inputs: Sequence[Inputs], recordings: Sequence[Recording]
     ) -> list[Find | None]:
         others = self.other.record_inputs_or_scripts(inputs)
-        return [
-            Find(it, one.text) if one.text and _play_differently(one, other) else None
-            for it, one, other in zip(inputs, recordings, others)
-        ]
+        return self.without_others(
+            [
+                Find(it, one.text) if one.text and _play_differently(one, other) else None
+                for it, one, other in zip(inputs, recordings, others)
+            ]
+        )
+
+    def first_find(self, differences: Sequence[SenderDifference]) -> Find | None:
+        """The first of the differences in what is played that counts."""
+        finds = self.without_others([it.find for it in differences])
+        return next((it for it in finds if it is not None), None)
 
 
 @dataclass(frozen=True)

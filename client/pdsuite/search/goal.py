@@ -1,4 +1,7 @@
-"""The goal of a search: rules of the sender that one event comes to, and facts of the state after that event."""
+"""The goal of a search: rules of the sender that one event comes to, and facts of the state after that event.
+
+A search for a difference of two senders has a goal of rules alone, which an event comes to under one of them.
+"""
 
 from collections.abc import Sequence
 from dataclasses import dataclass
@@ -21,6 +24,13 @@ class SearchGoal:
 
     rules: tuple[str, ...]
     state: StatePattern
+
+    def lines_with_all_rules(self, rules: RulesByLine) -> set[int]:
+        """The lines of which an event comes to all rules."""
+        return {line for line, names in rules.items() if self._has_all_rules(names)}
+
+    def _has_all_rules(self, names: Sequence[str]) -> bool:
+        return all(any(fnmatchcase(name, rule) for name in names) for rule in self.rules)
 
     def test_by_oracle(self, oracle: RulesOracle) -> FindTest:
         """The test of which inputs reach it. Only if there are rules the oracle is queried."""
@@ -57,9 +67,33 @@ class ComesToRulesTest:
 
     def _is_met_by(self, find: Find, rules: RulesByLine) -> bool:
         """Whether an event of a recording, which has a line for each, comes to all rules and reaches the state."""
-        lines = {line for line, names in rules.items() if self._has_all_rules(names)}
+        lines = self.goal.lines_with_all_rules(rules)
         played = enumerate(parse_played_events(find.recording), find.inputs.header_line_count + 1)
         return bool(lines) and any(line in lines and self.goal.state.fits_state(it.state) for line, it in played)
 
-    def _has_all_rules(self, names: Sequence[str]) -> bool:
-        return all(any(fnmatchcase(name, rule) for name in names) for rule in self.goal.rules)
+
+@dataclass(frozen=True)
+class RulesOnEitherSide:
+    """Leaves out finds of which no event comes to the rules of a goal under any of the senders.
+
+    A script of a find ends with the line that fails, so no later line counts.
+    """
+
+    goal: SearchGoal
+    oracles: Sequence[RulesOracle]
+
+    def __call__(self, finds: Sequence[Find | None]) -> list[Find | None]:
+        there = [it for it in finds if it is not None]
+        met = [False] * len(there)
+        for oracle in self.oracles:
+            # Who meets the goal under one sender isn't run under the other.
+            places = [place for place, is_met in enumerate(met) if not is_met]
+            listed = oracle.list_rules_of_scripts([configured_script_of_find(there[place]) for place in places])
+            for place, rules in zip(places, listed):
+                met[place] = self._is_met_by(there[place], rules)
+        each = iter(met)
+        return [it if it is not None and next(each) else None for it in finds]
+
+    def _is_met_by(self, find: Find, rules: RulesByLine) -> bool:
+        last = None if find.row is None else find.row.line
+        return any(last is None or line <= last for line in self.goal.lines_with_all_rules(rules))

@@ -101,7 +101,11 @@ class RulesOracle(Protocol):
         """The rules that each script comes to, by the lines of its events; none of one on which the program ends."""
 
 
-class SettingsOracle(SenderOracle, RulesOracle, Protocol):
+class SenderAndRulesOracle(SenderOracle, RulesOracle, Protocol):
+    """Queries one sender about its rules, too."""
+
+
+class SettingsOracle(SenderAndRulesOracle, Protocol):
     """Queries one sender about settings and rules, too."""
 
     def refusals_of_claims(self, claims: Sequence[Claim]) -> list[Refusal]:
@@ -112,7 +116,7 @@ class SettingsOracle(SenderOracle, RulesOracle, Protocol):
 class SideOracle:
     """Queries the sender of a side, under the settings that hold there beside those of inputs and scripts."""
 
-    oracle: SenderOracle
+    oracle: SenderAndRulesOracle
     side: Side
     common: Settings
 
@@ -130,6 +134,12 @@ class SideOracle:
 
     def explanation_lines_of_script(self, script: ConfiguredScript) -> list[str]:
         return self.oracle.explanation_lines_of_script(self._with_side_settings(script))
+
+    def require_that_rules_are_listed(self) -> None:
+        self.oracle.require_that_rules_are_listed()
+
+    def list_rules_of_scripts(self, scripts: Sequence[ConfiguredScript]) -> list[RulesByLine]:
+        return self.oracle.list_rules_of_scripts([self._with_side_settings(it) for it in scripts])
 
     def _with_side_settings(self, it: ConfiguredScript) -> ConfiguredScript:
         return replace(it, settings=self.settings_on_side(it.settings))

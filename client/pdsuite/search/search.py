@@ -101,7 +101,7 @@ class Search:
             found = self._simplest_find_played_on_from_differences(
                 sorted((it for it in differences if not it.is_played), key=_difference_size) + shown
             )
-        return found, shown[0].find if shown else None
+        return found, self.hidden.first_find(shown)
 
     def _simplest_find_of_retested_finds(self, finds: Sequence[Find]) -> Find | None:
         inputs = [it.inputs for it in finds]
