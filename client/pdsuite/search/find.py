@@ -61,12 +61,10 @@ class FailsTest:
         made = [Find(it, recording.text) if recording.text else None for it, recording in zip(inputs, recordings)]
         rows = iter(self.other.run_scripts_for_rows([configured_script_of_find(it) for it in made if it is not None]))
         finds = [None if it is None else Find(it.inputs, it.recording, next(rows)) for it in made]
-        return self.without_others(
-            [
-                it if it is not None and it.row is not None and it.row.verdict is not Verdict.PASS else None
-                for it in finds
-            ]
-        )
+        failing = [
+            it if it is not None and it.row is not None and it.row.verdict is not Verdict.PASS else None for it in finds
+        ]
+        return self.without_others(failing)
 
 
 @dataclass(frozen=True)
@@ -98,12 +96,11 @@ class DiffersTest:
         self, inputs: Sequence[Inputs], recordings: Sequence[Recording]
     ) -> list[Find | None]:
         others = self.other.record_inputs_or_scripts(inputs)
-        return self.without_others(
-            [
-                Find(it, one.text) if one.text and _play_differently(one, other) else None
-                for it, one, other in zip(inputs, recordings, others)
-            ]
-        )
+        differing = [
+            Find(it, one.text) if one.text and _play_differently(one, other) else None
+            for it, one, other in zip(inputs, recordings, others)
+        ]
+        return self.without_others(differing)
 
     def first_find(self, differences: Sequence[SenderDifference]) -> Find | None:
         """The first of the differences in what is played that counts."""
