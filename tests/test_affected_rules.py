@@ -37,7 +37,7 @@ unused = 5
 """
 RULE_TEXT = """-- Rules
 use Rattle.pd_board.specs.Low.{limit, shared}
-use Rattle.pd_host.specs.declared.checks.Check.TheVariants.{Early, Late as Tardy}
+use Rattle.pd_host.specs.declared.checks.Check.TheVariants.{Early, Late as Tardy, Other}
 
 abbrev pub first : ℕ
 first = helped + shared
@@ -59,9 +59,12 @@ nothing at = at
 
 pub record Both : Type 0 where
   pub both : first ≡ second
+
+abbrev pub chosen : ℕ → Option Check
+chosen at = choose Other at
 """
 CODE = """//! Code.
-ghost use Rattle.pd_host.specs.Rules.{first, second, any, nothing};
+ghost use Rattle.pd_host.specs.Rules.{first, second, any, nothing, chosen};
 
 const MOST: u32 = 9;
 
@@ -94,6 +97,14 @@ fn nothing(at: u32) -> u32
     ensures { result ≡ nothing at }
 {
     at
+}
+
+fn chosen(at: u32) -> Option<Check>
+    ensures { result ≡ chosen at }
+{
+    let place = 10;
+    counts(at);
+    later(at)
 }
 """
 SETTINGS = """impl Settings {
@@ -154,6 +165,11 @@ CHANGES = [
     ("u32 = 9", "u32 = 8", {FIRST}, f"MOST ({IN_CODE}:4)"),
     ("Some(Check::Other)", "Some(Check::Early)", {LATE}, f"any ({IN_CODE}:24)"),
     ("    at\n", "    first()\n", {LATE}, f"nothing ({IN_CODE}:31)"),
+    ("counts(at);", "any(at);", {LATE}, f"chosen ({IN_CODE}:37)"),
+    ("later(at)", "Some(Check::Early)", {EARLY}, f"chosen ({IN_CODE}:37)"),
+    ("place = 10", "place = 11", {FIRST}, f"chosen ({IN_CODE}:37)"),
+    # What changed is named once, where it is after the change.
+    ("Low\nabbrev pub limit : ℕ\nlimit = 3", "Low\n\nabbrev pub limit : ℕ\nlimit = 4", {FIRST}, f"limit ({IN_LOW}:3)"),
     # What is gone counts as it was.
     ("abbrev pub helped : ℕ\nhelped = limit\n\n", "", {FIRST}, f"helped ({IN_RULES}:8)"),
     # A default affects the rules whose definitions read the setting.
