@@ -102,14 +102,17 @@ NONE = "changed rules: none, since the sources of both senders are the same"
 UNKNOWN = ChangedRules(why_unknown="the sources of <x> aren't known")
 
 
+PARTS: list[tuple[ChangedRules | None, list[str]]] = [
+    (CHANGED, ALL_LINES),
+    (ChangedRules(), [NONE]),
+    (UNKNOWN, ["changed rules: unknown, since the sources of <x> aren't known"]),
+    (None, []),
+]
+
+
 def test_below_the_rules_that_other_scripts_come_to_stand_those_whose_sources_changed() -> None:
     same = "rules: of 1 compared script, the same come to each before and after"
-    for changed, lines in (
-        (CHANGED, ALL_LINES),
-        (ChangedRules(), [NONE]),
-        (UNKNOWN, ["changed rules: unknown, since the sources of <x> aren't known"]),
-        (None, []),
-    ):
+    for changed, lines in PARTS:
         found = RuleChanges((), 1, changed=changed)
         assert rule_changes_text(found, True).text_without_styles.splitlines() == [same, *lines]
 

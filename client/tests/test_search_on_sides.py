@@ -11,7 +11,7 @@ from pdsuite.programs.protocol import RulesByLine
 from pdsuite.programs.verdict import Row, Verdict
 from pdsuite.search.candidates import CandidateLists
 from pdsuite.search.find import DiffersTest, FailsTest, Find
-from pdsuite.search.goal import RulesOnEitherSide
+from pdsuite.search.goal import RulesOnEitherSide, scripts_at_rules_first
 from pdsuite.search.inputs import Inputs
 from pdsuite.search.oracle import ConfiguredScript
 from pdsuite.search.search import Search, SearchResult
@@ -57,6 +57,13 @@ def test_a_find_counts_that_comes_to_the_rules_under_one_of_both_senders() -> No
 def test_a_line_after_the_one_that_fails_does_not_count(line: int | None, counts: bool) -> None:
     listing, find = Listing({b"a": {3: ("x",)}}), find_of("a", line)
     assert RulesOnEitherSide(goal_of("rule:x"), (listing,))([find]) == [find if counts else None]
+
+
+def test_scripts_that_come_to_the_rules_are_varied_first() -> None:
+    scripts = [ConfiguredScript((), it) for it in (b"a", b"b", b"c", b"d")]
+    listing = Listing({b"b": {2: ("x",)}, b"c": {2: ("y",)}, b"d": {7: ("x", "y")}})
+    assert [it.octets for it in scripts_at_rules_first(scripts, goal_of("rule:x"), listing)] == [b"b", b"d", b"a", b"c"]
+    assert scripts_at_rules_first(scripts, None, Listing({})) == scripts
 
 
 def searched(change: str, counted: int, size: int) -> SearchResult:

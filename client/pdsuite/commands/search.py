@@ -33,7 +33,7 @@ from pdsuite.search.finished_script import (
     prepend_comment_stating_row_of_rerun,
 )
 from pdsuite.search.generate import KEYS
-from pdsuite.search.goal import RulesOnEitherSide, SearchGoal, parse_goal_if_valid
+from pdsuite.search.goal import RulesOnEitherSide, SearchGoal, parse_goal_if_valid, scripts_at_rules_first
 from pdsuite.search.initial_inputs import record_corpus_without_fixed_settings, suite_scripts_of_tree
 from pdsuite.search.oracle import (
     SettingsOracle,
@@ -165,14 +165,14 @@ def search_difference(
         before, after = _side_oracles_without_lacked_keys(oracles, sides, common, screen)
         changed = changed_functions_and_constants_of_trees(*trees)
         emphasis = emphasis_of_changes(changed, _keys_fixed_or_lacked(before.side, after.side, common))
-        scripts = suite_scripts_of_tree(trees[0] or TOP, stop)
+        fails, differs = _tests_of_counted_differences(options.goal, before, after)
+        scripts = scripts_at_rules_first(suite_scripts_of_tree(trees[0] or TOP, stop), options.goal, before)
         drawing = CandidateLists(
             seed,
             input_counts_of_successive_queries(),
             emphasis,
             record_corpus_without_fixed_settings(scripts, before, emphasis.fixed),
         )
-        fails, differs = _tests_of_counted_differences(options.goal, before, after)
         searched = Search(before, fails, differs, drawing, options.seconds).run(_bottom_line_progress_callback(screen))
         steady.require_unchanged(_AGAIN)
         find = searched.find or searched.unshown

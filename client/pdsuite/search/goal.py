@@ -6,6 +6,7 @@ A search for a difference of two senders has a goal of rules alone, which an eve
 from collections.abc import Sequence
 from dataclasses import dataclass
 from fnmatch import fnmatchcase
+from itertools import compress
 
 from pdsuite.compare.divergence import parse_played_events
 from pdsuite.programs.protocol import RulesByLine
@@ -13,7 +14,7 @@ from pdsuite.programs.recorder import Recording
 from pdsuite.search.coverage import StatePattern, parse_state_pattern_if_valid
 from pdsuite.search.find import Find, FindTest, ReachesTest, configured_script_of_find
 from pdsuite.search.inputs import Inputs
-from pdsuite.search.oracle import RulesOracle
+from pdsuite.search.oracle import ConfiguredScript, RulesOracle
 
 _RULE = "rule"
 
@@ -97,3 +98,13 @@ class RulesOnEitherSide:
     def _is_met_by(self, find: Find, rules: RulesByLine) -> bool:
         last = None if find.row is None else find.row.line
         return any(last is None or line <= last for line in self.goal.lines_with_all_rules(rules))
+
+
+def scripts_at_rules_first(
+    scripts: list[ConfiguredScript], goal: SearchGoal | None, oracle: RulesOracle
+) -> list[ConfiguredScript]:
+    """The scripts that come to the rules of a goal, if there is one, whose variations often do so, too; then others."""
+    if goal is None:
+        return scripts
+    is_there = [bool(goal.lines_with_all_rules(it)) for it in oracle.list_rules_of_scripts(scripts)]
+    return [*compress(scripts, is_there), *compress(scripts, [not it for it in is_there])]
