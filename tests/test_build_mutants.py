@@ -17,7 +17,7 @@ from build_mutants import place_of_number, programs_with_mutant  # noqa: E402
 from building import NoBuild  # noqa: E402
 from mutant_bodies import apply_all_mutants, function_bodies_in  # noqa: E402
 from mutant_files import Mutant, MutantError, TextChange, parse_mutants_of_text  # noqa: E402
-from mutant_rules import AWAITED, listed_rule_names, read_sender_mutants  # noqa: E402
+from mutant_rules import listed_rule_names, read_sender_mutants, rules_of_edits  # noqa: E402
 
 SOURCE = """//! A crate.
 const LEAST: u32 = 3;
@@ -159,11 +159,11 @@ def test_each_mutant_of_the_sender_names_rules_that_there_are() -> None:
     found = read_sender_mutants(TOP)
     assert {it.name.partition("/")[0] for it in found} == {"pd_board", "pd_recover", "pd_timer", "pd_host"}
     assert len({it.name for it in found}) == len(found)
-    assert {rule for it in found for rule in it.rules} >= AWAITED
+    assert {rule for it in found for rule in it.rules} <= listed_rule_names(TOP)
 
 
-def test_no_rule_is_awaited_that_is_listed() -> None:
-    assert not AWAITED & listed_rule_names(TOP)
+def test_each_listed_edit_is_a_mutant_of_the_sender() -> None:
+    assert {*rules_of_edits(TOP)} <= {it.name for it in read_sender_mutants(TOP)}
 
 
 @dataclass(frozen=True)
@@ -259,7 +259,7 @@ def test_a_sender_that_does_not_compile_is_refused(fixture: MutantFixture) -> No
     ("rule", "why"),
     [
         ("rule: own.unlisted\n", "there is no rule 'own.unlisted' in client/pdsuite/rules/rules.toml"),
-        ("", "names no rule: it needs a line 'rule:', before 'file:'"),
+        ("", "names no rule: it needs a line 'rule:', before 'file:', or a line in tools/edit_rules.toml"),
     ],
     ids=["unknown", "none"],
 )

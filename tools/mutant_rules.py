@@ -1,12 +1,12 @@
 """The mutants of the sender, each with the rules that it breaks: those of its crates that change code.
 
 They stand in the files `contracts.mutants` and `must-fail/*.edit` of the crates that are the sender. A mutant names
-rules by the names that client/pdsuite/rules/rules.toml lists, or that the list is to have.
+rules by the names that client/pdsuite/rules/rules.toml lists; those of edits stand in tools/edit_rules.toml.
 """
 from __future__ import annotations
 
 import tomllib
-from collections.abc import Iterator, Set
+from collections.abc import Iterator, Mapping, Set
 from dataclasses import dataclass
 from pathlib import Path
 
@@ -15,71 +15,8 @@ from mutant_files import Mutant, MutantError, TextChange, parse_mutants_of_text,
 CRATES = ("pd_board", "pd_recover", "pd_timer", "pd_host")
 RULES = "client/pdsuite/rules/rules.toml"
 CODE = "src/"
-# Rules of which a mutant breaks one, and that the program doesn't name yet. One that rules.toml lists goes from here.
-AWAITED = frozenset(
-    (
-        "own.call.ebadf",
-        "own.close.listener",
-        "own.fin.elsewhere",
-        "own.halt",
-        "own.outbox.limit",
-        "own.outbox.oldest-first",
-        "own.recovery.calls",
-        "own.write.count",
-        "rfc2018.acknowledged",
-        "rfc2018.block-above-top",
-        "rfc2018.marks",
-        "rfc3465.limit",
-        "rfc3465.limit-after-expiry",
-        "rfc5681.duplicate",
-        "rfc5681.expiry.cwnd",
-        "rfc5681.initial-window.resent-syn-ack",
-        "rfc5681.restart",
-        "rfc5681.restart.idle",
-        "rfc5681.ssthresh",
-        "rfc5681.ssthresh.without-limited-transmit",
-        "rfc6298.backoff",
-        "rfc6298.granularity",
-        "rfc6298.karn",
-        "rfc6298.min-rto",
-        "rfc6298.rttvar",
-        "rfc6298.timed.syn-ack",
-        "rfc6298.timer.restart",
-        "rfc6298.timer.start",
-        "rfc6675.duplicate",
-        "rfc6675.duplicate.below-recovery-point",
-        "rfc6675.is-lost.octets",
-        "rfc6675.is-lost.runs",
-        "rfc6675.pipe",
-        "rfc6675.pipe.sent-again",
-        "rfc6675.recovery.end",
-        "rfc6675.segment.ends-at-sacked",
-        "rfc6675.step-c.room",
-        "rfc6928.initial-window",
-        "rfc7323.shift",
-        "rfc7323.syn-window",
-        "rfc9293.ack.next",
-        "rfc9293.fin.ack",
-        "rfc9293.fin.counts",
-        "rfc9293.nagle.fin",
-        "rfc9293.push",
-        "rfc9293.rcv-nxt",
-        "rfc9293.smss",
-        "rfc9293.sws.half-window",
-        "rfc9293.window.usable",
-        "rfc9937.cwnd",
-        "rfc9937.delivered-data",
-        "rfc9937.delivers-nothing",
-        "rfc9937.end",
-        "rfc9937.prr-delivered",
-        "rfc9937.prr-out",
-        "rfc9937.recover-fs",
-        "rfc9937.safe-ack",
-        "rfc9937.sndcnt.forced",
-        "rfc9937.sndcnt.limit",
-        "rfc9937.sndcnt.proportional",
-    )
-)
+# The rules of edits, which have no line of their own for them.
+EDIT_RULES = "tools/edit_rules.toml"
 
 
 @dataclass(frozen=True)
@@ -106,8 +43,9 @@ def _in_one_line(text: str) -> str:
 
 def read_sender_mutants(top: Path) -> list[SenderMutant]:
     """The mutants of the sender in a tree that change nothing but code; one has to name its rules, or `none`."""
-    known = AWAITED | listed_rule_names(top)
-    found = [it for crate in CRATES for it in _mutants_of_crate(top, crate)]
+    known = listed_rule_names(top)
+    edit_rules = rules_of_edits(top)
+    found = [it for crate in CRATES for it in _mutants_of_crate(top, crate, edit_rules)]
     for it in found:
         refuse_missing_or_unknown_rules(it, known)
     return found
@@ -115,7 +53,7 @@ def read_sender_mutants(top: Path) -> list[SenderMutant]:
 
 def refuse_missing_or_unknown_rules(it: SenderMutant, known: Set[str]) -> None:
     if it.mutant.rules is None:
-        raise MutantError(f"{it.name} names no rule: it needs a line 'rule:', before 'file:'")
+        raise MutantError(f"{it.name} names no rule: it needs a line 'rule:', before 'file:', or a line in {EDIT_RULES}")
     for name in it.mutant.rules:
         if name not in known:
             raise MutantError(f"{it.name}: there is no rule '{name}' in {RULES}")
@@ -130,7 +68,17 @@ def listed_rule_names(top: Path) -> frozenset[str]:
     return frozenset(name for group in groups.values() for name in group)
 
 
-def _mutants_of_crate(top: Path, crate: str) -> Iterator[SenderMutant]:
+def rules_of_edits(top: Path) -> dict[str, tuple[str, ...]]:
+    """The rules that edits break, by crate and name; none where the tree has no such file."""
+    file = top / EDIT_RULES
+    try:
+        listed = tomllib.loads(file.read_text(encoding="utf-8")) if file.is_file() else {}
+    except (OSError, ValueError) as error:
+        raise MutantError(f"{EDIT_RULES}: {error}") from None
+    return {name: tuple(rules) for name, rules in listed.items()}
+
+
+def _mutants_of_crate(top: Path, crate: str, edit_rules: Mapping[str, tuple[str, ...]]) -> Iterator[SenderMutant]:
     folder = top / "crates" / crate
     file = folder / "contracts.mutants"
     edits = sorted(folder.glob("must-fail/*.edit"))
@@ -138,7 +86,9 @@ def _mutants_of_crate(top: Path, crate: str) -> Iterator[SenderMutant]:
     for it in mutants:
         if all(change.file.startswith(CODE) for change in it.changes):
             below = [TextChange(f"crates/{crate}/{one.file}", one.old, one.new) for one in it.changes]
-            yield SenderMutant(f"{crate}/{it.name}", Mutant(it.name, changes=below, rules=it.rules))
+            name = f"{crate}/{it.name}"
+            rules = edit_rules.get(name) if it.rules is None else it.rules
+            yield SenderMutant(name, Mutant(it.name, changes=below, rules=rules))
 
 
 def _mutant_of_edit_file(path: Path) -> Mutant:
