@@ -25,6 +25,7 @@ class Rules:
     least_rto: int = SECOND
     most_rto: int = 60 * SECOND
     granularity: int = 1_000
+    has_nagle: bool = True  # until a call changes it
 
     @property
     def initial_window(self) -> int:

@@ -106,15 +106,19 @@ class Player:
             window_rule=setting("initial_window", "rfc5681"),
             first_ssthresh=setting("initial_ssthresh", 1 << 30),
             least_rto=setting("min_rto_us", SECOND),
+            most_rto=setting("max_rto_us", 60 * SECOND),
             granularity=setting("granularity_us", 1_000),
+            has_nagle=setting("nagle", True),
         )
         is_resent = self.clock - self.syn_at >= max(SECOND, rules.least_rto)
         window = field << self.shift
         self.sender = Sender(rules, Start(self.syn_at, self.clock, is_resent, self.syn.win or 0, window))
 
     def _call(self, call: Call) -> None:
-        if call.name == "close" or "TCP_NODELAY" in call.arguments:
+        if call.name == "close":
             raise Unplayed(call.name)
+        if "TCP_NODELAY" in call.arguments and call.arguments[0] == "4" and self.sender is not None:
+            self.sender.has_nagle = call.arguments[3] == "[0]"
         if call.name != "write":
             return
         if self.sender is None or call.result != int(call.arguments[2]):

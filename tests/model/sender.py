@@ -49,6 +49,7 @@ class Sender:
     expiry: int | None = None
     timed: tuple[int, int, int] | None = None  # start and end of the segment that is timed, and when it left
     sent_at: int = 0  # when octets were last sent
+    has_nagle: bool = field(init=False)
     recoveries: int = 0
     acknowledging: int = 0  # how many of them an ACK of new octets began
 
@@ -56,6 +57,7 @@ class Sender:
         """RFC 9293, section 3.10.7.4; RFC 5681, section 3.1; RFC 6298, sections 2.2, 3 and 5.7."""
         start, rules = self.start, self.rules
         self.board = Board(rules.smss, una=1)
+        self.has_nagle = rules.has_nagle
         self.window = Window(rules, rules.smss if start.is_resent else rules.initial_window, rules.first_ssthresh)
         self.rwnd = start.window
         self.most_window = max(start.syn_window, start.window)
@@ -165,8 +167,8 @@ class Sender:
             return span if span[1] <= edge else None
         queued, usable, smss = board.end - board.next, edge - board.next, self.rules.smss
         count = min(queued, usable, smss)
-        if count <= 0 or (count < smss and board.flight):
-            return None  # the latter by Nagle's algorithm
+        if count <= 0 or (self.has_nagle and count < smss and board.flight):
+            return None
         if count < smss and queued > usable and 2 * count < self.most_window:
             return None
         return board.next, board.next + count
