@@ -117,7 +117,9 @@ class Sender:
                 yield from self._limited_transmit(now)
             case "entry":
                 self.window.pace(self.pipe())
-                yield self._send_and_start_timers_if_off(now, self.window.take_first_segment_of_recovery(self.board))
+                first = self.window.take_first_segment_of_recovery(self.board)
+                if first[0] < first[1]:  # else `una` is SACKed
+                    yield self._send_and_start_timers_if_off(now, first)
                 yield from self._step_c(now)
             case "step-c":
                 self.window.pace(self.pipe())
