@@ -43,7 +43,7 @@ def guard_of_rule_text(it: GuardedRule) -> StyledText:
 def guards_json(rules: Sequence[GuardedRule], run: RuleRun, left_out: Mapping[str, str]) -> StyledText:
     """The object of the rules, each with all of its mutants."""
     lost = [{"mutant": name, "why": why} for name, why in left_out.items()]
-    last = {_LEFT_OUT: lost, "total": _totals(rules, run, left_out), **mark_of(True)}
+    last: dict[str, object] = {_LEFT_OUT: lost, "total": _totals(rules, run, left_out), **mark_of(True)}
     return object_text({}, "rules", map(_rule_object, rules), last)
 
 
