@@ -7,7 +7,7 @@ from typing import Any
 
 import pytest
 
-from pdsuite.rules.mutants import Guard, Mutant, TriedMutant, guarded_rules
+from pdsuite.rules.mutants import Guard, BuiltMutant, TriedMutant, guarded_rules
 from pdsuite.rules.reached_rules import ReachedRules, uses_of_rules_by_name
 from pdsuite.rules.report import VERSION
 from pdsuite.rules.rule_list import SenderRule, load_sender_rules
@@ -51,7 +51,7 @@ def test_a_rule_is_guarded_where_each_of_its_mutants_turns_a_script() -> None:
         [SenderRule(it) for it in ("none", "b", "a", "c")], [ReachedRules("x", 9, {1: ("a", "c")})]
     )
     kinds = ((("a", "b"), ()), (("a", "new"), ("x",)), (("c",), ("x", "y")))
-    tried = [TriedMutant(Mutant(1, f"m{it}", rules, ""), turned) for it, (rules, turned) in enumerate(kinds)]
+    tried = [TriedMutant(BuiltMutant(1, f"m{it}", rules, ""), turned) for it, (rules, turned) in enumerate(kinds)]
     found = [(it.use.rule.name, it.guard, [one.mutant.name for one in it.living]) for it in guarded_rules(uses, tried)]
     assert found == [
         ("b", Guard.NOT, ["m0"]),

@@ -18,7 +18,7 @@ from pdsuite.rules.mutant_report import guard_of_rule_text, guards_json, guards_
 from pdsuite.rules.mutants import (
     UNCHANGED,
     GuardedRule,
-    Mutant,
+    BuiltMutant,
     MutantBuild,
     MutantRunner,
     TriedMutant,
@@ -108,13 +108,13 @@ def _build_mutants(tree: Path, stop: Stop, screen: Screen) -> MutantBuild:
     return build
 
 
-def _mutants_of_rule(build: MutantBuild, rule: str | None) -> list[Mutant]:
+def _mutants_of_rule(build: MutantBuild, rule: str | None) -> list[BuiltMutant]:
     return [it for it in build.mutants if rule is None or rule in it.rules]
 
 
 def _try_mutants(
     build: MutantBuild,
-    mutants: Sequence[Mutant],
+    mutants: Sequence[BuiltMutant],
     scripts: Sequence[SuiteScript],
     options: RulesOptions,
     folder: Path,

@@ -26,7 +26,7 @@ _LIMITED = '#!/bin/sh\nulimit -t 10\nulimit -v 4194304\nexec "$0.limited" "$@"\n
 
 
 @dataclass(frozen=True)
-class Mutant:
+class BuiltMutant:
     """A mutant that is built: its number in the program, its name, the rules that it breaks, and what is wrong."""
 
     number: int
@@ -41,7 +41,7 @@ class MutantBuild:
 
     octets: bytes
     place: int
-    mutants: Sequence[Mutant]
+    mutants: Sequence[BuiltMutant]
     left_out: Mapping[str, str]
 
     def put_program_of_mutant(self, number: int, folder: Path) -> Path:
@@ -60,7 +60,7 @@ def read_mutant_build(folder: Path) -> MutantBuild:
     """The mutants that were built in a folder."""
     try:
         listed = json.loads((folder / LIST).read_bytes())
-        mutants = [Mutant(it["number"], it["name"], tuple(it["rules"]), it["words"]) for it in listed["mutants"]]
+        mutants = [BuiltMutant(it["number"], it["name"], tuple(it["rules"]), it["words"]) for it in listed["mutants"]]
         left_out = {it["name"]: it["why"] for it in listed["left out"]}
         return MutantBuild((folder / REGRESS).read_bytes(), listed["place"], mutants, left_out)
     except OSError as error:
@@ -74,7 +74,7 @@ class TriedMutant:
     Where its program ends on a script, that one turns, and others aren't tried.
     """
 
-    mutant: Mutant
+    mutant: BuiltMutant
     turned: tuple[str, ...]
 
 
@@ -129,7 +129,7 @@ class MutantRunner:
     workers: int
     stop: Stop
 
-    def try_mutants(self, mutants: Sequence[Mutant], progress: Callable[[int], None]) -> Iterator[TriedMutant]:
+    def try_mutants(self, mutants: Sequence[BuiltMutant], progress: Callable[[int], None]) -> Iterator[TriedMutant]:
         """The scripts that turn under each mutant; `progress` gets how many are tried."""
         progress(0)
         rows = {script.index: row for script, row in self._rows_of_scripts(UNCHANGED)}
@@ -138,7 +138,7 @@ class MutantRunner:
             yield TriedMutant(mutant, tuple(path for _, path in turned))
             progress(count)
 
-    def _places_and_paths_that_turn(self, mutant: Mutant, rows: Mapping[int, Row]) -> Iterator[tuple[int, str]]:
+    def _places_and_paths_that_turn(self, mutant: BuiltMutant, rows: Mapping[int, Row]) -> Iterator[tuple[int, str]]:
         """The scripts with other rows than these, up to the first on which the mutant's program ends."""
         with closing(self._rows_of_scripts(mutant.number)) as found:
             for script, row in found:
