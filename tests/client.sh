@@ -63,7 +63,7 @@ unproved=
 [ "${1:-}" != --unproved ] || { unproved=$1; shift; }
 tools=$(cd "$top/client" && ls -d ../tests/conftest.py ../tests/documents ../tests/drawn ../tests/harness ../tests/model ../tests/store_rows.py ../tools/*prove*.py ../tools/affected*.py ../tools/build_cache.py ../tools/build_mutants.py \
     ../tools/building.py ../tools/changed_rules.py ../tools/check_tutorial.py ../tools/cited.py ../tools/copies.py ../tools/crate_graph.py ../tools/fault_places.py ../tools/gate.py ../tools/kernel ../tools/kit*.py ../tools/mutant*.py \
-    ../tools/names.py ../tools/parallel.py ../tools/proof*.py ../tools/repeated_rules.py ../tools/report_fault.py ../tools/rt_try.py ../tools/rule_sources.py ../tools/rules_table.py ../tools/run_batch.py ../tools/run_cases.py \
+    ../tools/names.py ../tools/parallel.py ../tools/proof*.py ../tools/reached_rules.py ../tools/repeated_rules.py ../tools/report_fault.py ../tools/rt_try.py ../tools/rule_sources.py ../tools/rules_table.py ../tools/run_batch.py ../tools/run_cases.py \
     ../tools/settings_table.py ../tools/signals.py ../tools/source_sums.py ../tools/stamps.py \
     ../tests/test_*.py)
 if ! "$top/tests/packages.sh" "$@"; then

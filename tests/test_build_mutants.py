@@ -5,6 +5,7 @@ import os
 import shutil
 import subprocess
 import sys
+import tomllib
 from dataclasses import dataclass
 from pathlib import Path
 
@@ -160,6 +161,17 @@ def test_each_mutant_of_the_sender_names_rules_that_there_are() -> None:
     assert {it.name.partition("/")[0] for it in found} == {"pd_board", "pd_recover", "pd_timer", "pd_host"}
     assert len({it.name for it in found}) == len(found)
     assert {rule for it in found for rule in it.rules} <= listed_rule_names(TOP)
+
+
+def test_the_list_of_the_suite_has_the_mutants_and_why_some_live() -> None:
+    """Mutants that can't be built aren't listed."""
+    suite = TOP / "examples/suite"
+    listed = tomllib.loads((suite / "reached.toml").read_text())["mutants"]
+    rules = {it.name: sorted(it.rules) for it in read_sender_mutants(TOP) if it.rules}
+    assert {name: it["rules"] for name, it in listed.items()}.items() <= rules.items()
+    living = tomllib.loads((suite / "coverage.toml").read_text())["living"]
+    assert {name for name, it in listed.items() if not it["turned"]} == living.keys()
+    assert all(living.values())
 
 
 def test_each_listed_edit_is_a_mutant_of_the_sender() -> None:

@@ -1,11 +1,12 @@
 #!/usr/bin/env python3
-"""Prints docs/COVERAGE.md: which scripts of examples/suite test which section of which RFC, and the bugs that they see.
+"""Prints docs/COVERAGE.md: which scripts of examples/suite test which section of which RFC, and which come to which rule.
 
     tools/coverage.py >docs/COVERAGE.md
 
 A script's first line names the sections that it tests, as `// RFC 6298, sections 5.1 and 5.4; RFC 9293, section 3.8.1: ..`,
-and its second line what would be wrong if it failed. All else is in examples/suite/coverage.toml. Where that file and the
-scripts contradict each other the tool says so, with the status 1.
+and its second line what would be wrong if it failed. What runs say of rules and mutants is in examples/suite/reached.toml,
+which tools/reached_rules.py makes, and all else in coverage.toml beside it. Where the files and the scripts contradict each
+other the tool says so, with the status 1.
 """
 
 import re
@@ -19,7 +20,8 @@ SUITE = Path(__file__).resolve().parent.parent / "examples/suite"
 CITATION = re.compile(r"RFC (\d+), sections? ([^;:]*)")
 POINT = re.compile(r"(?:steps?|case|equation|rules?) \d+(?:(?:,| and| to) \d+(?![.\d]))*")
 SECTION = re.compile(r"(?<![-\w.])(\d+(?:\.\d+)*)(?: to (\d+(?:\.\d+)*))?")
-HEAD = """<!-- Made by tools/coverage.py from the scripts and examples/suite/coverage.toml. -->
+RULE_LIST = SUITE.parent.parent / "client/pdsuite/rules/rules.toml"
+HEAD = """<!-- Made by tools/coverage.py from the scripts, coverage.toml and reached.toml of examples/suite. -->
 # What the suite covers
 
 `examples/suite` has {count} scripts that test the sender, section by section of the RFCs; `./pdsuite run examples/suite` runs \
@@ -32,12 +34,21 @@ A script can't show that no packet leaves at its end, since it passes even if pa
 a packet goes on to the next packet that is due, and fails there by its time or its number if the sender sends too much; or it \
 goes on until 1,025 packets are unmatched.
 """
-BUGS = """
-## Bugs that the scripts see
+RULES = """
+## Rules that the scripts come to
 
-If you change a rule, you find here the scripts to look at. {count} bugs, each a change of one line of the sender's rules, \
-were tried, and {seen} of them make a script fail; the list names some of the scripts. It says nothing about other bugs: if the suite \
-passes with one, `./pdsuite compare --search` makes a script that sees it.
+Scripts come to {reached} of the {count} [rules of the sender](RULES.md#the-rules). A mutant is a wrong change of the sender, which \
+breaks one of them or more. `./pdsuite rules --rule NAME` lists all scripts of a rule.
+
+| rule | scripts | shortest | mutants that turn a script |
+|---|---|---|---|
+"""
+MUTANTS = """
+## Scripts that turn where a rule is broken
+
+If you change a rule, you find here the scripts to look at. {seen} of {count} mutants turn scripts, and the list names some of these. \
+It says nothing about other wrong changes: if the suite passes with one, `./pdsuite compare --search` makes a script that sees it. \
+`./pdsuite rules --mutants` tries the mutants.
 """
 
 
@@ -54,7 +65,9 @@ def script_link(script: Path) -> str:
     return f"[`{script.stem}`](../{script.relative_to(SUITE.parent.parent)})"
 
 
-def render_rfc_sections_removing_their_scripts(rfc: dict[str, Any], tests: dict[tuple[int, str], list[Path]]) -> Iterator[str]:
+def render_rfc_sections_removing_their_scripts(
+    rfc: dict[str, Any], tests: dict[tuple[int, str], list[Path]]
+) -> Iterator[str]:
     yield f"\n## RFC {rfc['number']}, {rfc['title']}\n"
     for row in rfc["sections"]:
         scripts = tests.pop((rfc["number"], row["section"]), [])
@@ -64,13 +77,46 @@ def render_rfc_sections_removing_their_scripts(rfc: dict[str, Any], tests: dict[
         yield f"- **{row['section']}** {row['subject']}: {', '.join(map(script_link, scripts)) or why}"
 
 
-def bug_lines(bugs: dict[str, list[dict[str, Any]]], scripts: dict[str, Path]) -> Iterator[str]:
-    for crate, rows in bugs.items():
-        yield f"\n### `{crate}`\n"
-        for row in rows:
-            seen = ", ".join(script_link(scripts[name]) for name in row.get("scripts", "").split())
-            more = " and others" if row.get("has_more") else ""
-            yield f"- {row['bug']}: {seen + more if seen else 'none: ' + row['unseen']}"
+def mutants_by_rule(mutants: dict[str, dict[str, Any]]) -> dict[str, list[dict[str, Any]]]:
+    """The mutants that break each rule."""
+    found: dict[str, list[dict[str, Any]]] = {}
+    for mutant in mutants.values():
+        for rule in mutant["rules"]:
+            found.setdefault(rule, []).append(mutant)
+    return found
+
+
+def rule_lines(reached: dict[str, Any], scripts: dict[str, Path]) -> Iterator[str]:
+    """The table of rules, in the order of rules.toml."""
+    rules, broken = reached["rules"], mutants_by_rule(reached["mutants"])
+    with RULE_LIST.open("rb") as file:
+        names = [name for group in tomllib.load(file).values() for name in group]
+    if {*names} != {*rules}:
+        raise ValueError(f"reached.toml and rules.toml differ in {min({*names} ^ {*rules})}: tools/reached_rules.py")
+    yield RULES.format(reached=sum(bool(it["scripts"]) for it in rules.values()), count=len(rules)).rstrip("\n")
+    for name in names:
+        it, mutants = rules[name], broken.get(name, [])
+        shortest = script_link(scripts[it["shortest"].rpartition("/")[2]]) if "shortest" in it else ""
+        seen = f"{sum(bool(one['turned']) for one in mutants)} of {len(mutants)}" if mutants else ""
+        yield f"| `{name}` | {it['scripts']} | {shortest} | {seen} |"
+
+
+def mutant_lines(reached: dict[str, Any], living: dict[str, str], scripts: dict[str, Path]) -> Iterator[str]:
+    """The mutants by crates, each with scripts that turn, or why none does."""
+    mutants = reached["mutants"]
+    if unlike := {name for name, it in mutants.items() if not it["turned"]} ^ living.keys():
+        raise ValueError(f"[living] of coverage.toml and reached.toml differ in {min(unlike)}")
+    yield MUTANTS.format(seen=sum(bool(it["turned"]) for it in mutants.values()), count=len(mutants)).rstrip("\n")
+    crate = ""
+    for name, it in mutants.items():
+        if crate != name.partition("/")[0]:
+            crate = name.partition("/")[0]
+            yield f"\n### `{crate}`\n"
+        first = [script_link(scripts[script.rpartition("/")[2]]) for script in it.get("first", [])]
+        more = it["turned"] - len(first)
+        turned = ", ".join(first) + (f" and {more} more" if more else "")
+        rules = ", ".join(f"`{rule}`" for rule in it["rules"])
+        yield f"- {name.partition('/')[2].replace('_', ' ')} ({rules}): {turned or 'none: ' + living[name]}"
 
 
 def coverage_lines_refusing_unlisted_sections() -> Iterator[str]:
@@ -91,9 +137,9 @@ def coverage_lines_refusing_unlisted_sections() -> Iterator[str]:
         yield from render_rfc_sections_removing_their_scripts(rfc, tests)
     if tests:
         raise ValueError(f"coverage.toml has no section {next(iter(tests))}")
-    bugs = [row for rows in data["bugs"].values() for row in rows]
-    yield BUGS.format(count=len(bugs), seen=sum("scripts" in row for row in bugs)).rstrip("\n")
-    yield from bug_lines(data["bugs"], scripts)
+    reached = tomllib.loads((SUITE / "reached.toml").read_text(encoding="utf-8"))
+    yield from rule_lines(reached, scripts)
+    yield from mutant_lines(reached, data["living"], scripts)
 
 
 if __name__ == "__main__":
