@@ -10,7 +10,7 @@ use Rattle.pd_host.specs.declared.connection_snapshot.WindowSnapshot.{WindowSnap
 use Rattle.pd_recover.specs.declared.prr.PrrState.{PrrState}
 use Rattle.pd_explain.specs.RuleNames.{present}
 
--- What is acknowledged
+-- Acknowledged octets
 
 -- SND.UNA moves up to all that was sent, to a part of it, or not at all (RFC 9293, section 3.10.7.4, fifth check)
 abbrev pub ack_name : ConnectionSnapshot → ConnectionSnapshot → List ℕ
@@ -56,10 +56,10 @@ growth_name limit b a v w =
     if is_idle v.recovery && (is_idle w.recovery && nat_lt v.cwnd w.cwnd)
     then Some (growth_kind_name (most_growth limit b.smss (w.cwnd - v.cwnd)) (a.una - b.una) (w.cwnd - v.cwnd) v) else None
 
--- it becomes the restart window (RFC 5681, section 4.1): smaller, and not the segment that an expiry leaves
+-- it becomes the restart window (RFC 5681, section 4.1): smaller, while ssthresh stays, and not the segment that an expiry leaves
 abbrev pub restart_name : ConnectionSnapshot → WindowSnapshot → WindowSnapshot → Option (List ℕ)
 restart_name a v w =
-    if is_idle v.recovery && (is_idle w.recovery && (nat_lt w.cwnd v.cwnd && nat_lt a.smss w.cwnd)) then Some (codes "rfc5681.cwnd.restart-window") else None
+    if is_idle v.recovery && (is_idle w.recovery && (nat_lt w.cwnd v.cwnd && (nat_lt a.smss w.cwnd && v.ssthresh == w.ssthresh))) then Some (codes "rfc5681.cwnd.restart-window") else None
 
 -- ssthresh becomes half of FlightSize, at least two segments (RFC 5681, section 3.1, equation 4)
 abbrev pub ssthresh_name : ConnectionSnapshot → WindowSnapshot → WindowSnapshot → Option (List ℕ)

@@ -60,11 +60,12 @@ abbrev pub sample_variance_name : Option Timeout → Option Timeout → Option (
 sample_variance_name before None = None
 sample_variance_name before (Some t) = if is_sampled before (Some t) then Some (variance_name t.granularity_us) else None
 
--- a timeout that was doubled stays where an ACK of new octets gives no sample, and ends where it does (RFC 6298, section 5.7)
+-- a timeout that was doubled ends with a sample, which lowers it, and stays where an ACK of new octets gives none (RFC 6298,
+-- section 5.7)
 abbrev pub kept_backoff_name : Timeout → ConnectionSnapshot → ConnectionSnapshot → Option (List ℕ)
 kept_backoff_name t b a =
-    if nat_lt a.rto_us b.rto_us then Some (codes "rfc6298.backoff.ends")
-    else (if nat_lt t.bounded_us a.rto_us then Some (codes "rfc6298.backoff.kept") else None)
+    if nat_lt t.bounded_us b.rto_us then (if nat_lt a.rto_us b.rto_us then Some (codes "rfc6298.backoff.ends") else Some (codes "rfc6298.backoff.kept"))
+    else None
 
 abbrev pub backoff_after_ack_name : Option Timeout → ConnectionSnapshot → ConnectionSnapshot → Option (List ℕ)
 backoff_after_ack_name None b a = None
@@ -73,7 +74,7 @@ backoff_after_ack_name (Some t) b a = if b.una == a.una then None else kept_back
 -- all names of samples
 abbrev pub sample_names : Option Timeout → Option Timeout → ConnectionSnapshot → ConnectionSnapshot → List (List ℕ)
 sample_names before after b a =
-    present (sample_name before after b a ∷ sample_bound_name before after ∷ sample_variance_name before after ∷ backoff_after_ack_name after b a ∷ [])
+    present (sample_name before after b a ∷ sample_bound_name before after ∷ sample_variance_name before after ∷ backoff_after_ack_name before b a ∷ [])
 
 -- Expiries
 

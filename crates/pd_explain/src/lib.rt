@@ -12,7 +12,7 @@
 //! - The rules that a script comes to are found by a run of their own, from its first event, and no
 //!   checkpoint carries them. So they are those of the text and the settings, whatever a job took
 //!   over, and who doesn't ask for them pays nothing.
-//! - What an event does is found by the sender's numbers before it and after it (`numbers_in`,
+//! - The sender's numbers before an event and after it give what the event does (`numbers_in`,
 //!   specs/RuleTrace.antt), and the sender keeps no journal. A name is so a statement on numbers that
 //!   any reader can check, and none costs a plain run an instruction.
 #![tactic(auto)]

@@ -150,6 +150,7 @@ pub fn restart_name(
         && is_idle(new.recovery)
         && new.cwnd < old.cwnd
         && u32::from(after.smss) < new.cwnd
+        && old.ssthresh == new.ssthresh
     {
         Some("rfc5681.cwnd.restart-window")
     } else {

@@ -1,4 +1,4 @@
-//! What an event does to a sender, by its numbers before the event and after it.
+//! The names of an event's effects on a sender, by its numbers before the event and after it.
 ghost use Rattle.std.specs.Prelude.{◌≡◌, ◌++◌, ◌∷◌, [], fold, option_map, OnOk};
 ghost use Rattle.pd_explain.specs.Inner.{names_of};
 ghost use Rattle.pd_explain.specs.RuleNames.{as_list, with_name};

@@ -10,11 +10,11 @@ use pd_timer::Timeout;
 pub struct Numbers {
     /// Those of its connection, once a SYN has begun it.
     pub snapshot: Option<ConnectionSnapshot>,
-    /// What its timer measured, after a first sample (RFC 6298, section 2).
+    /// SRTT, RTTVAR and the RTO of them, after a first sample (RFC 6298, section 2).
     pub measured: Option<Timeout>,
     /// The time of its next expiry in microseconds, while the timer runs.
     pub deadline: Option<u64>,
-    /// What it makes of a duplicate, where octets are outstanding and no recovery goes on.
+    /// The effect of a duplicate, where octets are outstanding and no recovery goes on.
     pub duplicate: Option<DupAckEffect>,
 }
 

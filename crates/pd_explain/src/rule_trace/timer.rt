@@ -10,7 +10,7 @@ use pd_host::{ConnectionSnapshot, Recovery, WindowSnapshot};
 use pd_timer::{Estimate, Timeout};
 use std::alloc::AllocError;
 
-/// What an input does to the timer, by the times of the next expiry before it and after it, in microseconds.
+/// The effect of an input on the timer, by the times of the next expiry before it and after it, in microseconds.
 pub fn timer_name(before: Option<u64>, after: Option<u64>) -> Option<&'static str>
     ensures { option_map (λ name. name.now) result ≡ timer_name before after }
 {
@@ -129,10 +129,12 @@ fn kept_backoff_name(
 ) -> Option<&'static str>
     ensures { option_map (λ name. name.now) result ≡ kept_backoff_name timeout before.now after.now }
 {
-    if after.rto_us < before.rto_us {
-        Some("rfc6298.backoff.ends")
-    } else if timeout.bounded_us < after.rto_us {
-        Some("rfc6298.backoff.kept")
+    if timeout.bounded_us < before.rto_us {
+        if after.rto_us < before.rto_us {
+            Some("rfc6298.backoff.ends")
+        } else {
+            Some("rfc6298.backoff.kept")
+        }
     } else {
         None
     }
@@ -173,7 +175,7 @@ pub fn put_sample_names(
     put_name_if_some(names, sample_name(measured, measured_after, before, after))?;
     put_name_if_some(names, sample_bound_name(measured, measured_after))?;
     put_name_if_some(names, sample_variance_name(measured, measured_after))?;
-    put_name_if_some(names, backoff_after_ack_name(measured_after, before, after))
+    put_name_if_some(names, backoff_after_ack_name(measured, before, after))
 }
 
 fn doubled_name(before: &ConnectionSnapshot, after: &ConnectionSnapshot) -> &'static str
