@@ -59,7 +59,7 @@ def mutant_lines(guarded: list[dict[str, Any]]) -> Iterator[str]:
 
 
 def json_of_rules(*options: str) -> dict[str, Any]:
-    """What `pdsuite rules` prints of the suite."""
+    """The object that `pdsuite rules --json` prints of the suite."""
     command = [str(TOP / "pdsuite"), "rules", "--json", *options, SUITE]
     found: dict[str, Any] = json.loads(subprocess.run(command, cwd=TOP, check=True, stdout=subprocess.PIPE).stdout)
     return found

@@ -1,8 +1,8 @@
 """The definitions and the code of a sender that state its rules, by the rules' names.
 
 A rule that the table names is stated by what the table has for it. Any other rule that the program names by a variant,
-as `state_rule_name Listen`, is stated by the definitions that name this variant. What such definitions name counts for
-the rule, too, and so on; but not what another rule is stated by.
+as `state_rule_name Listen`, is stated by the definitions that name this variant. Definitions that these name count
+for the rule, too, and so on; but not those that state another rule.
 """
 from __future__ import annotations
 
@@ -82,7 +82,7 @@ def definitions_that_put_out_rules(tree: Path, named: Mapping[Variant, Rules]) -
 
 
 def read_rule_table(file: Path = TABLE) -> dict[str, list[str]]:
-    """What states each rule of the table, each as CRATE::NAME."""
+    """The definitions and code that state each rule of the table, each as CRATE::NAME."""
     with file.open("rb") as text:
         return tomllib.load(text)
 

@@ -6,7 +6,7 @@ from pathlib import Path
 import pytest
 
 from pdsuite.commands.compare import CompareOptions
-from pdsuite.compare.affected import AffectedRules
+from pdsuite.compare.affected import RulesOfChange
 from pdsuite.compare.comparison import ComparisonKind, SenderResults
 from pdsuite.compare.rule_changes import ChangedRule, ChangedRules, RuleChanges, ScriptOfChangedRule
 from pdsuite.page.comparison import ComparisonPage
@@ -31,7 +31,7 @@ def scripts_of(*kinds: ComparisonKind, at: tuple[int, ...] = (2,)) -> tuple[Scri
 
 
 def test_those_rules_come_first_of_which_most_scripts_turned_and_those_last_that_no_script_comes_to() -> None:
-    affected = AffectedRules(
+    affected = RulesOfChange(
         {"own.new": ("f (a:1)",), RST: ("g (b:2)",), EXPIRY: ("h (c:3)",), ACK: ("f (a:1)",)}, ("x",)
     )
     before = results({2: (ACK,)}, {}, {2: (ACK,), 3: (EXPIRY, "own.new")}, {4: (ACK,)})
@@ -59,7 +59,7 @@ def test_those_rules_come_first_of_which_most_scripts_turned_and_those_last_that
 
 
 def test_a_sender_that_lists_no_rules_leaves_those_of_the_other() -> None:
-    affected = AffectedRules({ACK: ("f (a:1)",)}, ())
+    affected = RulesOfChange({ACK: ("f (a:1)",)}, ())
     found = changed_rules_with_scripts(affected, compared(SAME), SenderResults({}), results({7: (ACK,)}), COMMAND)
     assert found.rules == (ChangedRule(ACK, WORDS[ACK], ("f (a:1)",), (ScriptOfChangedRule("0.pkt", SAME, (7,)),)),)
 

@@ -26,7 +26,7 @@ INPUTS = Inputs((), (), is_exact=False)
 
 
 @dataclass
-class Listing:
+class ListingOnSides:
     """Lists rules of scripts by their texts, and keeps the scripts."""
 
     rules: dict[bytes, RulesByLine]
@@ -46,7 +46,9 @@ def find_of(name: str, line: int | None = None) -> Find:
 
 
 def test_a_find_counts_that_comes_to_the_rules_under_one_of_both_senders() -> None:
-    before, after = Listing({b"a": {2: ("x", "y")}, b"b": {2: ("x",), 3: ("y",)}}), Listing({b"c": {5: ("y", "x")}})
+    before, after = ListingOnSides({b"a": {2: ("x", "y")}, b"b": {2: ("x",), 3: ("y",)}}), ListingOnSides(
+        {b"c": {5: ("y", "x")}}
+    )
     finds = [find_of("a"), None, find_of("b"), find_of("c"), find_of("d")]
     found = RulesOnEitherSide(goal_of("rule:x rule:y"), (before, after))(finds)
     assert found == [finds[0], None, None, finds[3], None]
@@ -55,15 +57,15 @@ def test_a_find_counts_that_comes_to_the_rules_under_one_of_both_senders() -> No
 
 @pytest.mark.parametrize(("line", "counts"), [(None, True), (4, True), (3, True), (2, False)])
 def test_a_line_after_the_one_that_fails_does_not_count(line: int | None, counts: bool) -> None:
-    listing, find = Listing({b"a": {3: ("x",)}}), find_of("a", line)
+    listing, find = ListingOnSides({b"a": {3: ("x",)}}), find_of("a", line)
     assert RulesOnEitherSide(goal_of("rule:x"), (listing,))([find]) == [find if counts else None]
 
 
 def test_scripts_that_come_to_the_rules_are_varied_first() -> None:
     scripts = [ConfiguredScript((), it) for it in (b"a", b"b", b"c", b"d")]
-    listing = Listing({b"b": {2: ("x",)}, b"c": {2: ("y",)}, b"d": {7: ("x", "y")}})
+    listing = ListingOnSides({b"b": {2: ("x",)}, b"c": {2: ("y",)}, b"d": {7: ("x", "y")}})
     assert [it.octets for it in scripts_at_rules_first(scripts, goal_of("rule:x"), listing)] == [b"b", b"d", b"a", b"c"]
-    assert scripts_at_rules_first(scripts, None, Listing({})) == scripts
+    assert scripts_at_rules_first(scripts, None, ListingOnSides({})) == scripts
 
 
 def searched(change: str, counted: int, size: int) -> SearchResult:

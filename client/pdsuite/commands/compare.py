@@ -11,7 +11,7 @@ from typing import TYPE_CHECKING
 from pdsuite.commands.options import thread_count_or_one_per_processor
 from pdsuite.compare.affected import (
     Affected,
-    AffectedRules,
+    RulesOfChange,
     RowStarts,
     affected_rules_of_trees,
     can_find_affected_rules,
@@ -82,10 +82,10 @@ class CompareOptions:
 
 @dataclass(frozen=True)
 class _AffectedParts:
-    """What a change affects in its tree, and the rules whose sources changed or why they are unknown, as requested."""
+    """The parts of a tree that a change affects, and the rules whose sources changed or why they are unknown, as requested."""
 
     tree: Affected | None
-    rules: AffectedRules | str | None
+    rules: RulesOfChange | str | None
 
 
 def compare_senders(options: CompareOptions, screen: Screen) -> int:
@@ -179,7 +179,7 @@ def _affected_rows_and_paragraphs_if_requested(
     return find_affected_rows_and_paragraphs(row_starts, [it.outputs for it in results], sources, room)
 
 
-def _affected_rules_or_why_unknown(senders: tuple[Sender, Sender], room: Path) -> AffectedRules | str:
+def _affected_rules_or_why_unknown(senders: tuple[Sender, Sender], room: Path) -> RulesOfChange | str:
     """The rules whose sources changed from one sender to the other."""
     if not can_find_affected_rules():
         return "here is no tree with tools/affected.py"
@@ -235,7 +235,7 @@ def _changes_of_reached_rules(
 
 
 def _changed_rules(
-    affected: AffectedRules | str,
+    affected: RulesOfChange | str,
     compared: Sequence[ComparedScript],
     results: tuple[SenderResults, SenderResults],
     command: str,

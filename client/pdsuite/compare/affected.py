@@ -126,7 +126,7 @@ def changed_functions_and_constants_of_trees(before: Path | None, after: Path | 
 
 
 @dataclass(frozen=True)
-class AffectedRules:
+class RulesOfChange:
     """The rules whose sources changed, each with what changed of them; and what changed and states no rule."""
 
     rules: Mapping[str, tuple[str, ...]]
@@ -138,10 +138,10 @@ def can_find_affected_rules() -> bool:
     return (TOP / _TOOL).is_file()
 
 
-def affected_rules_of_trees(before: Path, after: Path) -> AffectedRules:
+def affected_rules_of_trees(before: Path, after: Path) -> RulesOfChange:
     """The rules whose sources changed between two trees."""
     found = json.loads(_run_affected_tool(TOP, "rules", "--before", before, "--after", after))
-    return AffectedRules({rule: tuple(by) for rule, by in found["rules"].items()}, tuple(found["others"]))
+    return RulesOfChange({rule: tuple(by) for rule, by in found["rules"].items()}, tuple(found["others"]))
 
 
 def run_starts_on_programs(programs: dict[str, Path], row_starts: RowStarts, stop: Stop) -> list[ProcessOutput]:

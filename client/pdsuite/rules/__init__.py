@@ -6,7 +6,7 @@ come to a rule.
 
     Step .. --gather_reached_rules--> RuleRun --uses_of_rules_by_name--> RuleUse .. --> report, page
     SenderResults, SenderResults --changes_of_reached_rules--> RuleChanges, which `pdsuite compare --rules` reports
-    AffectedRules, SenderResults .. --changed_rules_with_scripts--> ChangedRules, which it reports, too
+    RulesOfChange, SenderResults .. --changed_rules_with_scripts--> ChangedRules, which it reports, too
 
 - The program alone says what an event comes to. A rule that it names and rules.toml lacks is listed too, without words.
 - rule_sources.toml has what states a rule in the sources of the sender; tools/rule_sources.py reads it.

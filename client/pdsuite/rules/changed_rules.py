@@ -2,7 +2,7 @@
 
 from collections.abc import Iterator, Mapping, Sequence
 
-from pdsuite.compare.affected import AffectedRules
+from pdsuite.compare.affected import RulesOfChange
 from pdsuite.compare.comparison import ComparedScript, ComparisonKind, SenderResults
 from pdsuite.compare.rule_changes import ChangedRule, ChangedRules, ScriptOfChangedRule
 from pdsuite.programs.protocol import RulesByLine
@@ -12,7 +12,7 @@ _KINDS = (ComparisonKind.TURNED, ComparisonKind.OTHERWISE)
 
 
 def changed_rules_with_scripts(
-    affected: AffectedRules,
+    affected: RulesOfChange,
     compared: Sequence[ComparedScript],
     before: SenderResults,
     after: SenderResults,
