@@ -12,7 +12,7 @@ TOP = Path(__file__).resolve().parents[1]
 sys.path.insert(0, str(TOP / "tools"))
 
 import affected_rules  # noqa: E402
-from rule_sources import TABLE, read_rule_sources, read_rule_table  # noqa: E402
+from rule_sources import TABLE, RuleSources, read_rule_sources, read_rule_table  # noqa: E402
 
 LIST = TABLE.with_name("rules.toml")
 # A rule is stated by a definition in the table, one by a function there, and two by definitions with their variants.
@@ -215,27 +215,79 @@ def names_of_rules() -> set[str]:
         return {name for group in tomllib.load(file).values() for name in group}
 
 
-def test_each_rule_is_stated_by_something_that_is_there() -> None:
+@pytest.fixture(scope="module")
+def real() -> RuleSources:
+    """The sources of the sender by its rules."""
+    return read_rule_sources(TOP, read_rule_table())
+
+
+def test_each_rule_is_stated_by_something_that_is_there(real: RuleSources) -> None:
     """A new rule needs a row in rule_sources.toml, unless definitions of the sender name its variant."""
     table = read_rule_table()
-    found = read_rule_sources(TOP, table)
-    there = {f"{key[0]}::{key[2]}" for key in (*found.sources.definitions, *found.sources.code)}
+    there = {f"{key[0]}::{key[2]}" for key in (*real.sources.definitions, *real.sources.code)}
     assert [it for paths in table.values() for it in paths if it not in there] == []
-    stated = {rule for rules in (*found.stated.values(), *found.stated_by_code.values()) for rule in rules}
-    assert stated - {"own.check.not-run"} == names_of_rules()
+    stated = {rule for rules in (*real.stated.values(), *real.stated_by_code.values()) for rule in rules}
+    assert stated == names_of_rules()
     assert table.keys() <= names_of_rules() and all(table.values())
 
 
-REAL = [
-    ("pd_board", "dup_thresh", {"rfc3042.limited-transmit", "rfc5681.fast-retransmit", "rfc6675.next-seg.lost"}),
-    ("pd_recover", "rescue_run", {"rfc6675.next-seg.rescue"}),
-    ("pd_host", "state_on", {"rfc9293.state.listen", "rfc9293.state.closed"}),
-    ("pd_host", "may_leave_by_sws_and_nagle", {"rfc9293.new-data"}),
-]
+NEXT_SEG = {f"rfc6675.next-seg.{it}" for it in ("lost", "new", "hole", "rescue")}
+COUNTS = {f"{rfc}.duplicate.{it}" for rfc in ("rfc5681", "rfc6675") for it in ("first", "second", "third")}
+REAL = {
+    "pd_board::dup_thresh": {
+        *COUNTS,
+        "rfc3042.limited-transmit",
+        "rfc5681.entry",
+        "rfc5681.fast-retransmit",
+        "rfc5681.recovery.widens",
+        "rfc6675.duplicate.below-recovery-point",
+        "rfc6675.duplicate.of-new-octets",
+        "rfc6675.entry.by-duplicates",
+        "rfc6675.entry.by-loss",
+        "rfc6675.fast-retransmit",
+        "rfc6675.limited-transmit",
+        "rfc6675.next-seg.lost",
+    },
+    "pd_board::is_lost": {
+        "rfc6675.entry.by-loss",
+        "rfc6675.fast-retransmit",
+        "rfc6675.limited-transmit",
+        "rfc6675.next-seg.lost",
+    },
+    "pd_board::has_new": {
+        "rfc2883.block.below-una",
+        *(f"rfc6675.duplicate.{it}" for it in ("first", "second", "third", "none", "of-new-octets")),
+    },
+    "pd_recover::rescue_run": {"rfc6675.next-seg.rescue"},
+    "pd_recover::next_send": {*NEXT_SEG, "rfc6675.sending.nothing-next"},
+    "pd_recover::limit_of": {"rfc3465.growth.limited"},
+    "pd_recover::proportional_ssthresh": {"rfc9937.proportional"},
+    "pd_recover::LARGER_INITIAL_WINDOW": {"rfc6928.initial-window"},
+    "pd_timer::timeout_of": {"rfc6298.rto.variance", "rfc6298.rto.granularity"},
+    "pd_timer::next_rttvar": {"rfc6298.rto.later-sample"},
+    "pd_timer::clamped": {f"rfc6298.rto.{it}" for it in ("within-bounds", "raised-to-min", "lowered-to-max")},
+    "pd_host::state_on": {"rfc9293.state.listen", "rfc9293.state.closed"},
+    "pd_host::smss_of": {f"rfc9293.smss.{it}" for it in ("ours", "peers", "default")},
+    "pd_host::DEFAULT_MSS": {"rfc9293.smss.default"},
+    "pd_host::before_eol": {"rfc9293.options.end-of-list"},
+    "pd_host::open_descriptor": {"own.call.ebadf"},
+    "pd_host::with_fin": {"rfc9293.call.close"},
+    "pd_host::is_recovering": {"own.sending.none-by-call-in-recovery"},
+    "pd_host::is_block_sent": {f"rfc2018.block.{it}" for it in ("counted", "empty", "above-top")},
+    "pd_host::may_leave_by_sws_and_nagle": {
+        "rfc9293.new-data",
+        "rfc9293.sending.nagle",
+        "rfc9293.sending.part-of-segment",
+    },
+    # A segment as a whole, which has many rules, states none.
+    "pd_host::ack_taken": set(),
+    "pd_recover::acked": set(),
+}
 
 
-@pytest.mark.parametrize(("crate", "name", "some"), REAL, ids=[it[1] for it in REAL])
-def test_definitions_of_the_sender_state_its_rules(crate: str, name: str, some: set[str]) -> None:
-    stated = read_rule_sources(TOP, read_rule_table()).stated
-    (rules,) = (rules for key, rules in stated.items() if (key[0], key[2]) == (crate, name))
-    assert some <= rules and (len(some) == 3 or some == rules)
+@pytest.mark.parametrize(("path", "rules"), REAL.items(), ids=REAL)
+def test_definitions_and_code_of_the_sender_state_its_rules(path: str, rules: set[str], real: RuleSources) -> None:
+    crate, _, name = path.partition("::")
+    keys = [key for key in (*real.sources.definitions, *real.sources.code) if (key[0], key[2]) == (crate, name)]
+    stated = {**real.stated, **real.stated_by_code}
+    assert keys and set().union(*(stated.get(key, set()) for key in keys)) == rules
