@@ -12,7 +12,7 @@ TOP = Path(__file__).resolve().parents[1]
 sys.path.insert(0, str(TOP / "tools"))
 
 import affected_rules  # noqa: E402
-from rule_sources import TABLE, RuleSources, read_rule_sources, read_rule_table  # noqa: E402
+from rule_sources import TABLE, RuleSources, read_rule_sources, read_rule_table, union  # noqa: E402
 
 LIST = TABLE.with_name("rules.toml")
 # A rule is stated by a definition in the table, one by a function there, and two by definitions with their variants.
@@ -233,7 +233,7 @@ def test_each_rule_is_stated_by_something_that_is_there(real: RuleSources) -> No
 
 NEXT_SEG = {f"rfc6675.next-seg.{it}" for it in ("lost", "new", "hole", "rescue")}
 COUNTS = {f"{rfc}.duplicate.{it}" for rfc in ("rfc5681", "rfc6675") for it in ("first", "second", "third")}
-REAL = {
+REAL: dict[str, set[str]] = {
     "pd_board::dup_thresh": {
         *COUNTS,
         "rfc3042.limited-transmit",
@@ -287,7 +287,7 @@ REAL = {
 
 @pytest.mark.parametrize(("path", "rules"), REAL.items(), ids=REAL)
 def test_definitions_and_code_of_the_sender_state_its_rules(path: str, rules: set[str], real: RuleSources) -> None:
-    crate, _, name = path.partition("::")
-    keys = [key for key in (*real.sources.definitions, *real.sources.code) if (key[0], key[2]) == (crate, name)]
-    stated = {**real.stated, **real.stated_by_code}
-    assert keys and set().union(*(stated.get(key, set()) for key in keys)) == rules
+    place = tuple(path.split("::"))
+    assert any((key[0], key[2]) == place for key in (*real.sources.definitions, *real.sources.code))
+    stated = (*real.stated.items(), *real.stated_by_code.items())
+    assert union(found for key, found in stated if (key[0], key[2]) == place) == rules
