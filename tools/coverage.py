@@ -5,8 +5,8 @@
 
 A script's first line names the sections that it tests, as `// RFC 6298, sections 5.1 and 5.4; RFC 9293, section 3.8.1: ..`,
 and its second line what would be wrong if it failed. The results of runs, for rules and mutants, are in
-examples/suite/reached.toml, which tools/reached_rules.py makes, and all else is in coverage.toml beside it. Where the files and the scripts contradict each
-other the tool says so, with the status 1.
+examples/suite/reached.toml, which tools/reached_rules.py makes, and all else is in coverage.toml beside it. Where the
+files and the scripts contradict each other the tool says so, with the status 1.
 """
 
 import re

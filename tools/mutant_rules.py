@@ -53,7 +53,9 @@ def read_sender_mutants(top: Path) -> list[SenderMutant]:
 
 def refuse_missing_or_unknown_rules(it: SenderMutant, known: Set[str]) -> None:
     if it.mutant.rules is None:
-        raise MutantError(f"{it.name} names no rule: it needs a line 'rule:', before 'file:', or a line in {EDIT_RULES}")
+        raise MutantError(
+            f"{it.name} names no rule: it needs a line 'rule:', before 'file:', or a line in {EDIT_RULES}"
+        )
     for name in it.mutant.rules:
         if name not in known:
             raise MutantError(f"{it.name}: there is no rule '{name}' in {RULES}")

@@ -18,8 +18,8 @@ from typing import Any
 TOP = Path(__file__).resolve().parent.parent
 SUITE = "examples/suite"
 HEAD = """\
-# The rules of the sender: how many scripts of examples/suite come to each, and the shortest of them; and the mutants, each with
-# the rules that it breaks, how many scripts turn, and the first of them. tools/reached_rules.py makes it.
+# The rules of the sender: how many scripts of examples/suite come to each, and the shortest of them; and the mutants,
+# each with the rules that it breaks, how many scripts turn, and the first of them. tools/reached_rules.py makes it.
 """
 # So many scripts of a mutant are named.
 SHOWN = 3

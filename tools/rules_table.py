@@ -3,8 +3,8 @@
 
   tools/rules_table.py
 
-Below the title of each group stand the sections of docs/SENDER.md that have names of the group; a name that no section has is
-refused. `tests/documents.py --write` puts the tables in place.
+Below the title of each group stand the sections of docs/SENDER.md that have names of the group; a name that no section
+has is refused. `tests/documents.py --write` puts the tables in place.
 """
 
 import re

@@ -85,10 +85,11 @@ def printed(called: Called) -> Any:
 def test_json_has_the_scripts_that_turn_under_each_mutant(tree: Tree) -> None:
     found = printed(tree.call("rules", "--mutants", "--json", "suite"))
     assert found["version"] == VERSION and found["UNPROVED"] is True
-    seen: dict[str, object] = {"mutant": "pd_host/seen", "words": "a.rt: pd_host/seen -> fail 1 seq"}
-    lives: dict[str, object] = {"mutant": "pd_host/lives", "words": "a.rt: pd_host/lives -> pass 1", "turned": []}
+    turned = ["suite/a.pkt", "suite/c.pkt"]
+    seen = {"mutant": "pd_host/seen", "words": "a.rt: pd_host/seen -> fail 1 seq", "turned": turned}
+    lives = {"mutant": "pd_host/lives", "words": "a.rt: pd_host/lives -> pass 1", "turned": []}
     rule = found["rules"][1]
-    assert rule.pop("mutants") == [{**seen, "turned": ["suite/a.pkt", "suite/c.pkt"]}, lives]
+    assert rule.pop("mutants") == [seen, lives]
     assert rule == {"rule": ACK, "words": WORDS[ACK], "guard": "only come to", "scripts": 2}
     assert found["left out"] == [{"mutant": "pd_board/bad", "why": "error: wrong"}]
     assert found["total"] == {

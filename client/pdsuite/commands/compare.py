@@ -82,7 +82,7 @@ class CompareOptions:
 
 @dataclass(frozen=True)
 class _AffectedParts:
-    """The parts of a tree that a change affects, and the rules whose sources changed or why they are unknown, as requested."""
+    """The parts of a tree that a change affects, and the rules of changed sources or why they are unknown."""
 
     tree: Affected | None
     rules: RulesOfChange | str | None
