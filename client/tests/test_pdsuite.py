@@ -142,16 +142,15 @@ def test_other_words_are_status_2(words: list[str], call: Call) -> None:
 
 def on_terminal(folder: Path, programs: Path, *words: str, **more: str) -> tuple[int, bytes]:
     """The status of a call whose standard output is a terminal, and what that shows."""
-    return shown_on_terminal(
-        [TOP / "pdsuite", *words], folder, {**os.environ, "PDSUITE_PROGRAMS": str(programs), **more}
-    )
+    inherited = {key: value for key, value in os.environ.items() if key != "NO_COLOR"}
+    environment = {**inherited, "PDSUITE_PROGRAMS": str(programs), "TERM": "xterm-256color", **more}
+    return shown_on_terminal([TOP / "pdsuite", *words], folder, environment)
 
 
 def shown_on_terminal(command: list[str | Path], folder: Path, environment: Mapping[str, str]) -> tuple[int, bytes]:
     """The status of a command whose standard output is a terminal, and what that shows."""
     near, far = pty.openpty()
-    inherited = {key: value for key, value in environment.items() if key != "NO_COLOR"}
-    process = subprocess.Popen(command, cwd=folder, env={**inherited, "TERM": "xterm-256color"}, stdout=far)
+    process = subprocess.Popen(command, cwd=folder, env=environment, stdout=far)
     os.close(far)
     shown = b""
     try:

@@ -7,7 +7,7 @@ from typing import Any
 
 import pytest
 
-from pdsuite.rules.mutants import Guard, BuiltMutant, TriedMutant, guarded_rules
+from pdsuite.rules.mutants import BuiltMutant, Guard, TriedMutant, guarded_rules
 from pdsuite.rules.reached_rules import ReachedRules, uses_of_rules_by_name
 from pdsuite.rules.report import VERSION
 from pdsuite.rules.rule_list import SenderRule, load_sender_rules
@@ -180,7 +180,8 @@ def test_words_of_other_forms_are_refused(words: tuple[str, ...], tree: Tree) ->
 
 def test_a_terminal_shows_how_many_mutants_are_tried(tree: Tree) -> None:
     command: list[str | Path] = [tree.top / "pdsuite", "rules", "--mutants", "suite"]
-    status, shown = shown_on_terminal(command, tree.suite.parent, tree.environment)
+    environment = {**tree.environment, "TERM": "xterm-256color", "NO_COLOR": ""}
+    status, shown = shown_on_terminal(command, tree.suite.parent, environment)
     assert status == 0 and b"building: compiling, 0 s" in shown and b"2/4" in shown and b"mutants" in shown
     last = shown[shown.rindex(b"\x1b[2K") :]
     assert b"\x1b[33mrfc9293.ack     only come to " in last and b"/4" not in last
